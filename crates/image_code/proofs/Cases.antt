@@ -7,13 +7,11 @@ use Rattle.image_code.proofs.Points.{ReachesNext, StepsFrom, entered_at, Visit}
 use Rattle.image_code.proofs.PointShapes.{next_entry, IsMarkedWord, IsPlain, word_ahead}
 use Rattle.image_code.proofs.Ended.{stops_act}
 use Rattle.image_code.proofs.Sparing.{uncounted}
-use Rattle.image_code.proofs.Memories.{fetch_is, images_stay, same_stored}
+use Rattle.image_code.proofs.Cells.{fetch_is, images_stay, same_stored, IsFit, cells_stay, own_stays}
 use Rattle.image_code.proofs.Routes.{Tail, tail}
-use Rattle.image_code.proofs.Between.{IsFit}
-use Rattle.image_code.proofs.Dead.{LastDead, gone_last}
+use Rattle.image_code.proofs.Dead.{gone_last}
 use Rattle.image_code.proofs.Marked.{AtWords, at_words}
 use Rattle.image_code.proofs.EntersBy.{Past, ends_by, enters_by, followed_same}
-use Rattle.image_code.proofs.Cells.{cells_stay, own_stays}
 
 -- an instruction judges the same bytes wherever it stands
 pub judged_moved : (notes : Notes) (x : Point) (t : State) (instr : Instr)
@@ -43,8 +41,7 @@ module _ (visit : Visit) (edges : List ℕ) (exit : Exit) (c : IsMarkedWord visi
   same = (acts_anywhere x.pc x.npc x.slot t (decode_of c.word) c.straight).0
 
   puts_one : (descriptor : ℕ) → run_puts t 1 descriptor ≡ puts_on_word (at_point x t) (word_of g.text x.pc) descriptor
-  puts_one descriptor =
-      live_puts t c.word descriptor here.live (fetch_is t.memory t.pc ∙ there.words.0)
+  puts_one descriptor = live_puts t c.word descriptor here.live (fetch_is t.memory t.pc ∙ there.words.0)
       ∙ (acts_anywhere x.pc x.npc x.slot t (decode_of c.word) c.straight).1 descriptor
       ∙ sym (ap (λ (o : Option ℕ). puts_on_word (at_point x t) o descriptor) c.is_word)
 
@@ -61,9 +58,13 @@ module _ (visit : Visit) (edges : List ℕ) (exit : Exit) (c : IsMarkedWord visi
     alone = λ _. refl;
   }
 
-  ends : (d : Ending) → v.ending ≡ Some d
-      → AllApart (pages_of g.notes) (judged_by t (decode_of c.word)) → ReachesNext site (gone_at g node x v) node x t v
-  ends d over apart =
+  -- The word ends the run as the original's does, or control goes on from item 3 of its piece.
+  steps : (next : Option ℕ) → AllApart (pages_of g.notes) (judged_by t (decode_of c.word)) → (e : Option Ending)
+      → v.ending ≡ e → (v.ending ≡ None → IsFit site a → a.pc ≡ place c.piece 3 → Tail site next (gone_at g node x v) a
+      (entered_at site (node_after (graph_in g) node (gone_at g node x v)) (point_of v)) 8)
+      → (v.ending ≡ None → IsWatched (edit_in g) (gone_at g node x v) x v → next ≢ None)
+      → ReachesNext site (gone_at g node x v) node x t v
+  steps next apart (Some d) over onward watched =
       let stopped : a.ending ≡ Some d = ap (λ (z : State). z.ending) same ∙ over in
       let stays = stops_act t (decode_of c.word) c.straight here.live d stopped in
       let none : (counted : ℕ → Bool) → count_stores counted t 1 ≡ 0 =
@@ -77,41 +78,30 @@ module _ (visit : Visit) (edges : List ℕ) (exit : Exit) (c : IsMarkedWord visi
             (sym (ap (λ (z : State). hopped z 0 a.memory) same)) (sym (ap (λ (z : State). z.memory) same));
         there = record { range = ap (range_at g.notes) stays; page = ap (in_pages g.notes) stays };
       })
-
-  goes : (next : Option ℕ) (edges : List ℕ) → LastDead g edges → v.ending ≡ None
-      → AllApart (pages_of g.notes) (judged_by t (decode_of c.word))
-      → (IsFit site a → a.pc ≡ place c.piece 3 → Tail site next edges a
-      (entered_at site (node_after (graph_in g) node edges) (point_of v)) 8)
-      → (IsWatched (edit_in g) edges x v → next ≢ None) → ReachesNext site edges node x t v
-  goes next edges last live apart onward watched =
+  steps next apart None live onward watched =
       let alive : a.ending ≡ None = ap (λ (z : State). z.ending) same ∙ live in
       let went = goes_act t (decode_of c.word) c.straight alive in
-      let vwent = goes_act (at_point x t) (decode_of c.word) c.straight live in
       let npc = there.next (omega arith) in
-      let low = there.low in
-      let onpc : a.npc ≡ a.pc + 4 = omega arith in
+      let onpc : a.npc ≡ a.pc + 4 = omega (arith, there.low) in
       let has = images_stay site t (decode_of c.word) one apart here.memory in
-      let out = uncounted g.notes (placed.frame.stored.within (page_word 0) placed.frame.stored.first) t
-      (decode_of c.word) apart alive in
+      let stored = placed.frame.stored in
+      let out = uncounted g.notes (stored.within (page_word 0) stored.first) t (decode_of c.word) apart alive in
       let says : Says (code_of t.memory) t.pc (decode_of c.word) =
       record { word = c.word; fetched = there.words.0; decodes = refl } in
-      enters_by visit next edges v a 1 last (record {
-        past = past edges apart (no_stores _ t _ here.live says out.0, no_stores _ t _ here.live says out.1);
+      enters_by visit next (gone_at g node x v) v a 1 (gone_last site node x v) (record {
+        past = past (gone_at g node x v) apart (no_stores _ t _ here.live says out.0, no_stores _ t _ here.live says out.1);
         same = sym (ap (λ (z : State). hopped z 0 a.memory) same);
         outside = λ n stores. rw (ap (λ (z : State). z.memory) same) at (same_stored site a.memory n has stores);
         has = has;
         live = alive;
         npc = onpc;
         slot = went.2;
-        target_in_page = λ taken. let none = vwent.2 in absurd (cc);
-        watched = watched;
-        kept = λ _.
-            own_stays site t (decode_of c.word) apart here.memory.ours (page_word 0) placed.frame.stored.first;
-      }) (λ fit.
-      let tail = onward fit (omega (arith, npc, went.0, there.behind)) in
-      (tail.0, λ _. tail.1))
+        target_in_page = λ taken.
+            let none = (goes_act (at_point x t) (decode_of c.word) c.straight live).2 in absurd (cc);
+        watched = watched live;
+        kept = λ _. own_stays site t (decode_of c.word) apart here.memory.ours (page_word 0) stored.first;
+      }) (λ fit. let tail = onward live fit (omega (arith, there.behind)) in (tail.0, λ _. tail.1))
 
-  -- The word ends the run as the original's does, or control goes on from item 3 of its piece.
   pub marked_step : (next : Option ℕ) → AllApart (pages_of g.notes) (judged_by (at_point x t) (decode_of c.word))
       → ((does_at g x t).ending ≡ None → IsFit site a → a.pc ≡ place c.piece 3
       → Tail site next (gone_at g node x (does_at g x t)) a (next_entry site node x t) 8)
@@ -119,17 +109,7 @@ module _ (visit : Visit) (edges : List ℕ) (exit : Exit) (c : IsMarkedWord visi
       → StepsFrom site node x t
   marked_step next apart onward watched =
       let is : does_at g x t ≡ v = ap (on_word (at_point x t)) c.is_word in
-      rw is (by v.ending refl (rw is at onward) (rw is at watched))
-    where
-      by : (e : Option Ending) → v.ending ≡ e
-          → (v.ending ≡ None → IsFit site a → a.pc ≡ place c.piece 3 → Tail site next (gone_at g node x v) a
-          (entered_at site (node_after (graph_in g) node (gone_at g node x v)) (point_of v)) 8)
-          → (v.ending ≡ None → IsWatched (edit_in g) (gone_at g node x v) x v → next ≢ None)
-          → ReachesNext site (gone_at g node x v) node x t v
-      by None e onward watched =
-          goes next _ (gone_last site node x v) e (judged_moved g.notes x t (decode_of c.word) apart)
-          (onward e) (watched e)
-      by (Some d) e onward watched = ends d e (judged_moved g.notes x t (decode_of c.word) apart)
+      rw is (steps next (judged_moved g.notes x t (decode_of c.word) apart) _ refl (rw is at onward) (rw is at watched))
 
 module _ (visit : Visit) (c : IsPlain visit.site visit.node visit.x visit.t) where
   open visit use {site, node, x, t, site.{g}}
@@ -139,7 +119,6 @@ module _ (visit : Visit) (c : IsPlain visit.site visit.node visit.x visit.t) whe
       marked_step visit c.edges c.exit c.mark (word_ahead g x t) apart
       (λ live fit pc.
       let leads = c.leads live in
-      subst (λ gone. Tail site (word_ahead g x t) gone (act t (decode_of c.word)) (next_entry site node x t) 8)
-      (sym leads.0)
+      subst (λ gone. Tail site (word_ahead g x t) gone (act t (decode_of c.word)) (next_entry site node x t) 8) (sym leads.0)
       (tail site c.piece _ c.shape _ (word_ahead g x t) (next_entry site node x t) fit pc leads.1.0 leads.1.1))
       (λ live w. w.inside)

@@ -1,11 +1,11 @@
 -- What is dead on a way along some edges: only behind the snippet of the last of them, so that no snippet reads a
 -- register in which an earlier one left anything else.
-use Rattle.image_code.proofs.Common.{get_or, ◌≡◌, ℕ, ◌⊎◌, inl, inr, Bool, ◌&&◌, Option, Some, None, List, [], ◌∷◌, ◌++◌, length, refl, ap, sym, ◌∙◌, subst, if◌then◌else◌, ◌-◌, slice_index, position, option_to_list, and_parts, cond_both, position-Some, slice_get-get_or, word_at, Instr, decode_of, Memory, IsSameOutside, Ending, Slot, NoSlot, Taken, Untaken, State, pages_of, StateItem, Register, IsSameAt, append-nil, EdgeKind, Edge, has_cases, lands, Node, X, Point, WayOut, instr_at, left_by, point_of, slot_left, way_of, same_kind, same_node, hopped, gone, landed, leads_along, unless_ended, IsItem, completed, left_along, left_at, IsFollowedBy, IsKept, EditSetup, gone_at, graph_in, is_out}
+use Rattle.image_code.proofs.Common.{arith, get_or, ◌≡◌, ℕ, ◌⊎◌, inl, inr, Bool, ◌&&◌, Option, Some, None, List, [], ◌∷◌, ◌++◌, length, refl, ap, sym, ◌∙◌, if◌then◌else◌, position, option_to_list, and_parts, cond_both, position-Some, slice_get-get_or, word_at, Instr, Memory, IsSameOutside, Slot, NoSlot, State, pages_of, StateItem, IsSameAt, append-nil, EdgeKind, Edge, has_cases, lands, Node, X, Point, WayOut, left_by, point_of, slot_left, same_kind, same_node, hopped, gone, landed, leads_along, unless_ended, completed, left_along, left_at, IsFollowedBy, IsKept, EditSetup, gone_at, graph_in, is_out}
 use Rattle.v8_decode.specs.declared.Instr.TheVariants as i
 use Rattle.cfg_blocks.specs.declared.EdgeKind.TheVariants as kinds
 use Rattle.cfg_normal.specs.declared.Slot.TheVariants.{Nothing}
 use Rattle.image_code.proofs.Points.{Site}
-use Rattle.image_code.proofs.Between.{same_at}
+use Rattle.image_code.proofs.Cells.{same_at}
 
 -- ---- lists of edges
 
@@ -19,39 +19,32 @@ abbrev pub LastDead : EditSetup → List ℕ → Type 0
 LastDead g [] = Unit {0}
 LastDead g (edge ∷ edges) = ((edges ≡ []) ⊎ (g.dead edge ≡ [])) × LastDead g edges
 
-none_behind : (first others : List ℕ) → first ++ others ≡ [] → (first ≡ []) × (others ≡ [])
-none_behind [] others e = (refl, e)
-none_behind (edge ∷ first) others e = absurd (cc)
-
+-- so in each part, and the first of two has nothing that is dead, if the other has an edge
 pub last_parted : (g : EditSetup) (first others : List ℕ) → LastDead g (first ++ others)
-    → (others ≡ []) ⊎ NothingDead g first
-last_parted g [] others d = inr tt
-last_parted g (edge ∷ first) others (inl e, more) = inl (none_behind first others e).1
-last_parted g (edge ∷ first) others (inr e, more) = elim (last_parted g first others more) [
-  | inl none ↦ inl none
-  | inr nothing ↦ inr (e, nothing)
-]
-
-pub last_first : (g : EditSetup) (first others : List ℕ) → LastDead g (first ++ others) → LastDead g first
-last_first g [] others d = tt
-last_first g (edge ∷ first) others (inl e, more) = (inl (none_behind first others e).0, last_first g first others more)
-last_first g (edge ∷ first) others (inr e, more) = (inr e, last_first g first others more)
-
-pub last_others : (g : EditSetup) (first others : List ℕ) → LastDead g (first ++ others) → LastDead g others
-last_others g [] others d = d
-last_others g (edge ∷ first) others d = last_others g first others d.1
+    → LastDead g first × LastDead g others × ((others ≡ []) ⊎ NothingDead g first)
+last_parted g [] others d = (tt, d, inr tt)
+last_parted g (edge ∷ first) others (here, more) =
+    let rest = last_parted g first others more in
+    elim here [
+      | inl none ↦
+          let both : (first ≡ []) × (others ≡ []) = elim first as (λ xs. xs ++ others ≡ [] → (xs ≡ []) × (others ≡ [])) [
+            | [] ↦ λ e. (refl, e)
+            | x ∷ xs ↦ λ e. absurd (cc)
+          ] none in
+          ((inl both.0, rest.0), rest.1, inl both.1)
+      | inr nothing ↦ ((inr nothing, rest.0), rest.1, elim rest.2 [ inl none ↦ inl none | inr others ↦ inr (nothing, others) ])
+    ]
 
 pub nothing_parted : (g : EditSetup) (first others : List ℕ) → NothingDead g (first ++ others)
     → NothingDead g first × NothingDead g others
 nothing_parted g [] others d = (tt, d)
 nothing_parted g (edge ∷ first) others d = let more = nothing_parted g first others d.1 in ((d.0, more.0), more.1)
 
-pub kept_parted : (g : EditSetup) (first others : List ℕ) (window : ℕ) (item : StateItem)
+kept_parted : (g : EditSetup) (first others : List ℕ) (window : ℕ) (item : StateItem)
     → IsKept g (first ++ others) window item → IsKept g first window item × IsKept g others window item
 kept_parted g [] others window item k = (tt, k)
 kept_parted g (edge ∷ first) others window item k =
-    let more = kept_parted g first others window item k.1 in
-    ((k.0, more.0), more.1)
+    let more = kept_parted g first others window item k.1 in ((k.0, more.0), more.1)
 
 -- ---- states
 
@@ -73,38 +66,26 @@ alike_same g edges a b m same = record {
   valid = sym (ap (λ (z : State). z.valid) same);
   input = sym (ap (λ (z : State). z.input) same);
   registers = sym (ap (λ (z : State). length z.registers) same);
-  items = λ item _.
-      same_at item a b (ap (λ (z : State). z.registers) same) (ap (λ (z : State). z.codes) same)
+  items = λ item _. same_at item a b (ap (λ (z : State). z.registers) same) (ap (λ (z : State). z.codes) same)
       (ap (λ (z : State). z.y) same);
 }
 
 pub same_then : (item : StateItem) (a b c : State) → IsSameAt item a b → IsSameAt item b c → IsSameAt item a c
-same_then (Register n) a b c e f = e ∙ f
-same_then _ a b c e f = e ∙ f
+same_then item a b c e f = grind arith
 
 pub alike_then : (g : EditSetup) (first others : List ℕ) (a b c : State) → IsAlike g first a b → IsAlike g others b c
     → IsAlike g (first ++ others) a c
-alike_then g first others a b c one other = record {
-  ending = other.ending ∙ one.ending;
-  window = other.window ∙ one.window;
-  valid = other.valid ∙ one.valid;
-  input = other.input ∙ one.input;
-  registers = other.registers ∙ one.registers;
-  items = λ item kept.
-      let both = kept_parted g first others a.window item kept in
-      same_then item a b c (one.items item both.0)
-      (other.items item (subst (λ z. IsKept g others z item) (sym one.window) both.1));
-}
+alike_then g first others a b c one other =
+    let items : (item : StateItem) → IsKept g (first ++ others) a.window item → IsSameAt item a c = λ item kept.
+    let both = kept_parted g first others a.window item kept in
+    same_then item a b c (one.items item both.0) (other.items item (rw one.window both.1)) in
+    search
 
 -- it follows the original's, if memory does
 pub followed_alike : (g : EditSetup) (edges : List ℕ) (v after : State)
     → IsSameOutside (pages_of g.notes) v.memory after.memory → IsAlike g edges v after
     → IsFollowedBy (pages_of g.notes) (IsKept g edges v.window) v after
-followed_alike g edges v after outside all =
-    let items : v.ending ≡ None → (item : StateItem) → IsItem item → IsKept g edges v.window item
-    → IsSameAt item v after =
-    λ _ item _ kept. all.items item kept in
-    assumption (items, all)
+followed_alike g edges v after outside all = search all.items
 
 -- ---- the edges of a step
 
@@ -153,20 +134,18 @@ module _ (site : Site) where
 
   at_last : (node : Node) (o : Option ℕ) → LastDead g (left_at g.text (graph_in g) node o)
   at_last node None = tt
-  at_last node (Some word) = left_last node word (decode_of (slice_index g.text.words word))
+  at_last node (Some word) = left_last node word _
 
   completed_last : (node : Node) (before after : Point) (from to : Slot)
       → LastDead g (completed g.text (graph_in g) node before after from to)
-  completed_last node before after NoSlot NoSlot = at_last node (word_at g.text before.pc)
-  completed_last node before after Taken NoSlot = by_kind node (way_of (instr_at g.text (before.pc - 4)) Taken) after.pc
-  completed_last node before after Untaken NoSlot =
-      by_kind node (way_of (instr_at g.text (before.pc - 4)) Untaken) after.pc
+  completed_last node before after NoSlot NoSlot = at_last node _
+  completed_last node before after from NoSlot = by_kind node _ after.pc
   completed_last node before after _ _ = tt
 
   -- the edges that a step completes
   pub gone_last : (node : Node) (x : Point) (v : State) → LastDead g (gone_at g node x v)
-  gone_last node x v = go v.ending
-    where
-      go : (e : Option Ending) → LastDead g (gone g.text (graph_in g) node x (unless_ended e (point_of v)))
-      go None = completed_last node x (point_of v) x.slot v.slot
-      go (Some d) = tt
+  gone_last node x v =
+      elim v.ending as (λ e. LastDead g (gone g.text (graph_in g) node x (unless_ended e (point_of v)))) [
+        | None ↦ completed_last node x (point_of v) x.slot v.slot
+        | Some d ↦ tt
+      ]

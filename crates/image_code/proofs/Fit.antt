@@ -1,5 +1,6 @@
--- What holds of each piece that is made, and so of all.
-use Rattle.image_code.proofs.Common.{subst, range_with_len, map-append, ◌≡◌, sym, ◌∙◌, ℕ, zero, suc, ◌+◌, ◌-◌, ◌*◌, ◌<◌, ◌≤◌, Bool, true, false, ◌==◌, Option, Some, None, List, [], ◌∷◌, ◌++◌, append-nil, length, length-map, map, get_or, length-append, refl, ap, arith, if◌then◌else◌, nat_lt, slice_get, slice_get-map, slice_index, flat_map, option_map, position, sum_by, option_to_list, cond_both, eq-eqb, false≢true, ltb-true, sum_by-append, sum_by-cons, position-Some, slice_get-get_or, Words, word_at, IsText, Addr, Op2, Instr, decode_of, is_transfer, EdgeKind, always, never, below, holding_of, last_word, size_of, length-below, is_fall, Edge, Node, Block, X, same_kind, same_node, Open, jumps_in, Graph, lands, IsEdgeIn, IsNodeIn, ends_block, landing_at, left_by, block, copy, in_held, some_words, straight_left, Each, each_at, each-append, each-below, Item, item_at, item_in, Op, fold-map, is_copied, LeadsBelow, piece_words, Exit, Head, OfWord, Shape, assembled, head_items, items_of, marked, enumerate_from, or_left, or_right, sum_by-le, IsMarked, load_of, IsReached, IsWordOf, pieces_of, IsGraphOf, AreFit, AreShort, PiecesFit, PlacesSay, marks_in, map-range_with_len_more}
+-- What holds of each piece that is made, and so of all. How many of their words are those of snippets: each edge's once,
+-- but a landing's once for each word that lands there, and a Case edge's once for each entry that does.
+use Rattle.image_code.proofs.Common.{[], range_with_len, map-append, ◌≡◌, sym, ◌∙◌, ℕ, zero, suc, ◌+◌, ◌*◌, ◌<◌, ◌≤◌, Bool, true, false, ◌==◌, Option, Some, None, List, ◌∷◌, ◌++◌, append-nil, length, length-map, map, length-append, refl, ap, arith, if◌then◌else◌, slice_get, slice_get-map, slice_index, flat_map, option_map, position, sum_by, option_to_list, cond_both, eq-eqb, false≢true, sum_by-append, sum_by-cons, slice_get-get_or, Words, IsText, Op2, Instr, decode_of, is_transfer, EdgeKind, always, never, below, size_of, is_fall, Edge, Node, Block, X, same_kind, same_node, Open, jumps_in, Graph, lands, IsEdgeIn, IsNodeIn, ends_block, landing_at, left_by, block, copy, in_held, some_words, straight_left, Each, each_at, each-append, Item, item_in, Op, fold-map, LeadsBelow, piece_words, Exit, Head, OfWord, Shape, assembled, head_items, items_of, marked, enumerate_from, or_right, sum_by-le, IsMarked, load_of, IsReached, IsWordOf, pieces_of, IsGraphOf, AreFit, AreShort, PiecesFit, PlacesSay, marks_in, not, ◌&&◌, last_in, each-then, mul-le-mul_left, mul-le-mul_right, mul_left_comm, and_parts, nat_tests, Landed, edge_along, edge_from, same_nodes, ends_within, each, count_by, same_itself, and_right, snippet_on, node_in_order, edges_but_landings, operations_from, operations_in, eqb-true}
 use Rattle.v8_decode.specs.declared.Instr.TheVariants as i
 use Rattle.cfg_blocks.specs.declared.EdgeKind.TheVariants as kinds
 use Rattle.layout.specs.declared.items.Item.TheVariants as it
@@ -7,16 +8,29 @@ use Rattle.cfg_normal.specs.declared.Slot.{Slot}
 use Rattle.cfg_normal.specs.declared.Slot.TheVariants as slots
 use Rattle.image_code.specs.declared.shape.Exit.TheVariants as exits
 use Rattle.image_code.specs.declared.shape.Head.TheVariants as heads
-use Rattle.image_code.specs.Labels.{Case, Spare, Foreign, Image, Label, Landing, Save, Way, entry_label, entry_labels, labels_in_order, switch_labels, edges_but_landings, enter_number, foreign_number, node_in_order, number_of, piece_labels, place_in}
-use Rattle.image_code.specs.Made.{way_shape, case_by, choice_of, first_way, first_word, goes_on, image, image_by, is_slots, jump_by, jump_image_by, jumps_at, save_by, next_at, nop_word, piece_list, shape_list, shape_of, unused, visit_of, way_along, way_by, way_out}
-use Rattle.image_code.proofs.Listed.{count_is, number_below, way_stands}
-use Rattle.image_code.proofs.Numbers.{no_edge, Leaves, found_below, number_of_list, Goes, case_reaches, ordered_number}
-use Rattle.image_code.proofs.OpenBlocks.{IsSwitchIn, IsTextGraph, text_graph, words_of}
-use Rattle.image_code.proofs.OpenNumbers.{case_number_below, each_index, enter_below, first_word_of, foreign_is, lands_below, lands_word}
-use Rattle.image_code.proofs.OpenSums.{code_length}
-use Rattle.image_code.proofs.Sized.{case_code, case_edge, code_by, block_end_within, entries_in, image_code, landing_code, no_code, order_code, snippets_few, way_code, ways_code}
+use Rattle.image_code.specs.Labels.{Case, Spare, Image, Label, Landing, Way, entry_label, entry_labels, switch_labels, edges_but_landings, enter_number, foreign_number, node_in_order, piece_labels, place_in}
+use Rattle.image_code.specs.Made.{way_shape, case_by, choice_of, first_way, first_word, goes_on, image_by, jump_by, jump_image_by, jumps_at, save_by, next_at, nop_word, piece_list, shape_list, shape_of, unused, visit_of, way_by, way_out}
+use Rattle.image_code.proofs.Listed.{count_is, number_below, way_stands, switch_in, load_in}
+use Rattle.image_code.proofs.OpenNumbers.{Leaves, found_below, number_of_list, Goes, case_reaches, ordered_number, case_number_below, each_index, enter_below, first_word_of, foreign_is, lands_below, lands_word}
+use Rattle.image_code.proofs.OpenBlocks.{IsTextGraph, text_graph, words_of}
+use Rattle.image_code.proofs.OpenSums.{code_length, sum_flat, count_le, count_none, count_single, count_within, one_use, uses, uses_next, found_use, position_use}
 use Rattle.image_code.proofs.Shapes.{ExitLeads, HeadLeads, IsAt, IsMade, IsShaped, head_size, made, made_bare, mark_says, sized, switch_some, well_marked}
-use Rattle.image_code.proofs.Positions.{StandsIn, any_at}
+use Rattle.image_code.proofs.Positions.{any_at, position_at}
+use Rattle.std.proofs.lemmas.List.Sums.{sum_by-le-sum_by}
+use Rattle.image_code.specs.Copies.{copies_of, is_at, targets_from, words_at}
+
+-- ---- the words of snippets in the pieces
+
+same_turned : (one other : Node) → same_node one other ≡ true → same_node other one ≡ true
+same_turned one other e = rw (same_nodes one other e) (same_itself other)
+
+-- ---- how often an edge is found
+
+-- only where a part of a test holds that is the same for all
+count_if : {A : Type 0} (t : Bool) (p : A → Bool) (xs : List A) (n : ℕ) → (t ≡ true → count_by p xs ≤ n)
+    → (t ≡ false → (x : A) → p x ≡ false) → count_by p xs ≤ (if t then n else 0)
+count_if true p xs n some none = some refl
+count_if false p xs n some none = omega (arith, count_none p xs (each _ _ (none refl)))
 
 module _ (text : Words) (graph : Graph) (table cases : ℕ) (codes : ℕ → List ℕ) (is : IsText text)
     (h : IsGraphOf text graph) where
@@ -26,9 +40,216 @@ module _ (text : Words) (graph : Graph) (table cases : ℕ) (codes : ℕ → Lis
   g : IsTextGraph text graph
   g = text_graph text graph is h
 
-  labelled : length shapes ≡ length (piece_labels text graph)
+  abbrev labels : List Label
+  labels = piece_labels text graph
+
+  abbrev numbers : List ℕ
+  numbers = below (length text.words)
+
+  abbrev own_edges : List Edge
+  own_edges = edges_but_landings graph
+
+  -- ---- the words of snippets in the pieces: in the image of a word at a node
+
+  abbrev code_by : Node → ℕ → Instr → ℕ
+  code_by node word instr = if is_transfer instr then 0 else code_length codes (left_by graph node word instr)
+
+  abbrev image_code : Node → ℕ → ℕ
+  image_code node word = code_by node word (decode_of (slice_index text.words word))
+
+  -- among the images in the order of the text
+  abbrev order_code : ℕ → ℕ
+  order_code word = image_code (node_in_order graph word) word
+
+  -- at a landing
+  abbrev landing_code : ℕ → ℕ
+  landing_code word = code_length codes (landing_at graph (lands graph (Some word)))
+
+  -- on the way along an edge; a landing has none
+  abbrev is_own : EdgeKind → Bool
+  is_own kind = not (same_kind kind kinds.Land) && not (is_fall kind) && not (same_kind kind kinds.Case)
+
+  abbrev way_code : ℕ → Option Edge → ℕ
+  way_code number None = 0
+  way_code number (Some edge) = if is_own edge.kind then length (codes number) else 0
+
+  -- along the Case edge of a switch to a word
+  abbrev case_edge : Open → ℕ → List ℕ
+  case_edge o word = edge_along graph (block o.block) (record { kind = kinds.Case; to = Some (lands graph (Some word)) })
+
+  abbrev case_code : Open × ℕ → ℕ
+  case_code entry = code_length codes (case_edge entry.0 entry.1)
+
+  -- the entries of some switches
+  abbrev entries_in : List Open → List (Open × ℕ)
+  entries_in opens = flat_map (λ (o : Open). map (λ (word : ℕ). (o, word)) o.targets) opens
+
+  abbrev code_words : ℕ
+  code_words =
+      sum_by order_code numbers + sum_by (λ way. way_code way (slice_get graph.edges way)) (below (length own_edges))
+      + sum_by landing_code numbers + sum_by case_code (entries_in graph.opens)
+
+  -- ---- behind the last word of a block
+
+  abbrev falls : ℕ → Edge → Bool
+  falls word edge =
+      ends_block graph (node_in_order graph word) word
+      && (same_node edge.from (node_in_order graph word) && same_kind edge.kind kinds.Fall)
+
+  -- at the last word of a block only, and not in a transfer
+  code_is : (P : ℕ → Type 0) (node : Node) (word : ℕ) → P 0
+      → (is_transfer (decode_of (slice_index text.words word)) ≡ false → ends_block graph node word ≡ true
+      → P (code_length codes (edge_from graph node kinds.Fall))) → P (image_code node word)
+  code_is P node word idle last =
+      cond_both (is_transfer (decode_of (slice_index text.words word))) 0 _ P (λ _. idle) (λ e.
+      rw (straight_left graph node word (decode_of (slice_index text.words word)) e)
+      (cond_both (ends_block graph node word) _ [] (λ (edges : List ℕ). P (code_length codes edges)) (last e) (λ _. idle)))
+
+  ends_last : (node : Node) (word : ℕ) → ends_block graph node word ≡ true → word ≡ last_in graph node
+  ends_last node word e = grind (arith, nat_tests)
+
+  falls_count : (edge : Edge) → count_by (λ word. falls word edge) numbers
+      ≤ (if same_kind edge.kind kinds.Fall then 1 else 0)
+  falls_count edge =
+      count_if (same_kind edge.kind kinds.Fall) (λ word. falls word edge) numbers 1
+      (λ _. count_single (λ word. falls word edge) (length text.words) (last_in graph edge.from) (λ word h.
+      grind (arith, same_nodes edge.from (node_in_order graph word), ends_last (node_in_order graph word) word)))
+      (λ e word. and_right _ _ (and_right _ _ e))
+
+  -- ---- on ways
+
+  abbrev along : ℕ → ℕ → Edge → Bool
+  along way number edge = (way == number) && is_own edge.kind
+
+  ways_cover : (way : ℕ) → way_code way (slice_get graph.edges way) ≤ one_use (along way) codes 0 graph.edges
+  ways_cover way = by (slice_get graph.edges way) refl
+    where
+      by : (o : Option Edge) → slice_get graph.edges way ≡ o → way_code way o ≤ one_use (along way) codes 0 graph.edges
+      by None e = omega arith
+      by (Some edge) e =
+          let few = found_use (along way) codes way way 0 edge graph.edges e (omega arith) in grind (arith, nat_tests)
+
+  ways_count : (number : ℕ) (edge : Edge) → count_by (λ way. along way number edge) (below (length own_edges))
+      ≤ (if is_own edge.kind then 1 else 0)
+  ways_count number edge =
+      count_if (is_own edge.kind) (λ way. along way number edge) (below (length own_edges)) 1
+      (λ _. count_single (λ way. along way number edge) (length own_edges) number
+      (λ way h. eqb-true way number (and_parts _ _ h).0)) (λ e way. and_right _ _ e)
+
+  -- ---- at landings
+
+  abbrev lands_there : ℕ → Edge → Bool
+  lands_there word edge = same_node edge.to (lands graph (Some word)) && same_kind edge.kind kinds.Land
+
+  -- where a run lands at a node, the word stands in the node's block
+  at_node : (node : Node) (word : ℕ) → word < length text.words → is_at graph node word ≡ true → IsWordOf graph node word
+  at_node node word l e = rw (same_nodes _ node e) at (lands_word text graph g word l)
+
+  block_end_within : (k : ℕ) → k < length graph.blocks.firsts
+      → slice_index graph.blocks.firsts k + size_of graph.blocks k ≤ length text.words
+  block_end_within k l =
+      let some = some_words graph.blocks.words graph.blocks.firsts g.cut.firsts k l in
+      omega (arith, some, ends_within graph.blocks.words graph.blocks.firsts g.cut.firsts k l, g.cut.words)
+
+  node_count : (node : Node) → IsNodeIn graph.blocks graph.opens node
+      → count_by (is_at graph node) numbers ≤ count_by (is_at graph node) (words_at graph node)
+  node_count (Block k) l =
+      count_within (is_at graph (Block k)) (length text.words) (slice_index graph.blocks.firsts k.0)
+      (size_of graph.blocks k.0) (λ word l e. let is = at_node (Block k) word l e in omega (arith, is.1.0, is.1.1))
+  node_count (Landed k) l =
+      count_within (is_at graph (Landed k)) (length text.words) (slice_index graph.blocks.firsts k.0)
+      (size_of graph.blocks k.0) (λ word l e. let is = at_node (Landed k) word l e in omega (arith, is.1.0, is.1.1))
+  node_count X l = count_within (is_at graph X) (length text.words) 0 0 (λ word l e. absurd (at_node X word l e))
+
+  landings_count : (edge : Edge) → IsNodeIn graph.blocks graph.opens edge.to
+      → count_by (λ word. lands_there word edge) numbers
+      ≤ (if same_kind edge.kind kinds.Land then count_by (is_at graph edge.to) (words_at graph edge.to) else 0)
+  landings_count edge inside =
+      count_if (same_kind edge.kind kinds.Land) (λ word. lands_there word edge) numbers _ (λ _.
+      let more = count_le (λ word. lands_there word edge) (is_at graph edge.to) numbers
+      (λ word h. same_turned edge.to (lands graph (Some word)) (and_parts _ _ h).0) in
+      omega (arith, more, node_count edge.to inside)) (λ e word. and_right _ _ e)
+
+  -- ---- by entries
+
+  abbrev leads_there : Node → Node → Bool → Open × ℕ → Bool
+  leads_there from to is_case entry =
+      same_node to (lands graph (Some entry.1)) && (same_node from (block entry.0.block) && is_case)
+
+  abbrev chooses : Open × ℕ → Edge → Bool
+  chooses entry edge = leads_there edge.from edge.to (same_kind edge.kind kinds.Case) entry
+
+  cases_count : (edge : Edge) → count_by (λ entry. chooses entry edge) (entries_in graph.opens)
+      ≤ (if same_kind edge.kind kinds.Case then count_by (is_at graph edge.to) (targets_from graph edge.from) else 0)
+  cases_count edge =
+      count_if (same_kind edge.kind kinds.Case) (λ entry. chooses entry edge) (entries_in graph.opens) _
+      (λ e. rw e (leaving edge.from)) (λ e entry. and_right _ _ (and_right _ _ e))
+    where
+      leaving : (from : Node) → count_by (leads_there from edge.to true) (entries_in graph.opens)
+          ≤ count_by (is_at graph edge.to) (targets_from graph from)
+      leaving (Block k) = simp (sum_flat, fold-map) (sum_by-le-sum_by _ _ graph.opens (λ o.
+          let takes : ℕ → Bool = λ word. leads_there (Block k) edge.to true (o, word) in
+          cond_both (o.block == k.0) o.targets []
+          (λ (words : List ℕ). count_by takes o.targets ≤ count_by (is_at graph edge.to) words)
+          (λ _. count_le takes (is_at graph edge.to) o.targets
+          (λ word h. same_turned edge.to (lands graph (Some word)) (and_parts _ _ h).0))
+          (λ e. let none = count_none takes o.targets (each _ _ (λ word. grind (arith, nat_tests, e))) in
+          omega (arith, none))))
+      leaving from =
+          let none = count_none (leads_there from edge.to true) (entries_in graph.opens)
+          (each _ _ (λ entry. and_right (same_node edge.to (lands graph (Some entry.1))) _ refl)) in
+          omega (arith, none)
+
+  -- ---- no more often than it is counted
+
+  -- which edges each of them takes
+  abbrev tests : List (ℕ → Edge → Bool)
+  tests =
+      map (λ word n. falls word) numbers ++ map along (below (length own_edges))
+      ++ map (λ word n. lands_there word) numbers ++ map (λ entry n. chooses entry) (entries_in graph.opens)
+
+  count_few : (number : ℕ) (edge : Edge) → IsEdgeIn graph.blocks graph.opens edge
+      → count_by (λ q. q number edge) tests ≤ copies_of graph edge
+  count_few number edge inside =
+      let landed = landings_count edge inside.to in
+      let cased = cases_count edge in
+      simp (sum_by-append, fold-map) (grind (arith, falls_count edge, ways_count number edge))
+
+  edges_few : (snips : List (List Op)) → AreShort snips codes → (number : ℕ) (edges : List Edge)
+      → Each (IsEdgeIn graph.blocks graph.opens) edges
+      → uses codes tests number edges ≤ 22 * operations_from graph snips number edges
+  edges_few snips short number [] inside =
+      omega (arith, sum_by-le (λ q. one_use q codes number []) 0 tests (λ k d l. omega arith))
+  edges_few snips short number (edge ∷ edges) inside =
+      let copies = copies_of graph edge in
+      let many = mul-le-mul_right (length (codes number)) (count_few number edge inside.0) in
+      let long = mul-le-mul_left copies (short.short number) in
+      let each = mul_left_comm copies 22 (length (snippet_on snips number)) in
+      omega (arith, uses_next codes tests number edge edges, edges_few snips short (suc number) edges inside.1)
+
+  snippets_few : (snips : List (List Op)) → AreShort snips codes → code_words ≤ 22 * operations_in graph snips
+  snippets_few snips short =
+      let all = simp (sum_by-append, fold-map) at (edges_few snips short 0 graph.edges g.edges) in
+      let ordered = sum_by-le-sum_by _ _ numbers (λ word.
+      code_is (λ n. n ≤ one_use (λ n. falls word) codes 0 graph.edges) (node_in_order graph word) word (omega arith)
+      (λ _ l. rw l at (position_use (falls word) codes graph.edges))) in
+      let landed = sum_by-le-sum_by _ _ numbers (λ word. position_use (lands_there word) codes graph.edges) in
+      let cased = sum_by-le-sum_by _ _ (entries_in graph.opens) (λ entry. position_use (chooses entry) codes graph.edges) in
+      omega (arith, all, ordered, landed, cased, sum_by-le-sum_by _ _ (below (length own_edges)) ways_cover)
+
+  -- ---- where a block ends in a transfer no snippet stands in its images
+
+  no_code : (node : Node) (word : ℕ)
+      → is_transfer (decode_of (slice_index text.words (last_in graph node))) ≡ true
+      → image_code node word ≡ 0
+  no_code node word ends =
+      code_is (λ n. n ≡ 0) node word refl (λ e l. absurd (false≢true (sym e ∙ rw (ends_last node word l) ends)))
+
+  -- ---- the pieces
+
+  labelled : length shapes ≡ length labels
   unfolding shape_list
-  labelled = length-map (piece_labels text graph) (shape_of text graph table cases)
+  labelled = length-map labels (shape_of text graph table cases)
 
   many : length shapes ≡ foreign_number text graph + 1
   many = labelled ∙ count_is text graph g
@@ -43,16 +264,14 @@ module _ (text : Words) (graph : Graph) (table cases : ℕ) (codes : ℕ → Lis
   entered : (node : Node) (word : ℕ) → IsWordOf graph node word → enter_number text graph node word < length shapes
   entered node word inside = omega (arith, labelled, enter_below text graph g node word inside)
 
-  numbered : (x : Label) (n : ℕ) → StandsIn (piece_labels text graph) x n → number_of text graph x < length shapes
-  numbered x n s = omega (arith, labelled, number_below text graph g x n s)
-
   -- ---- the way of a kind leads to a piece
 
   way_by_number : (node : Node) (kind : EdgeKind) → same_kind kind kinds.Land ≡ false → (o : Option ℕ)
       → position (Leaves text graph g node kind) graph.edges ≡ o → first_way text graph (option_to_list o) < length shapes
   way_by_number node kind other None e = omega (arith, many)
   way_by_number node kind other (Some number) e =
-      numbered (Way number) _ (way_stands text graph g number (found_below text graph g node kind other number e))
+      let low = found_below text graph g node kind other number e in
+      omega (arith, labelled, number_below text graph g (Way number) _ (way_stands text graph g number low))
 
   way_below : (node : Node) (kind : EdgeKind) → same_kind kind kinds.Land ≡ false
       → way_out text graph node kind < length shapes
@@ -61,13 +280,7 @@ module _ (text : Words) (graph : Graph) (table cases : ℕ) (codes : ℕ → Lis
   -- ---- images
 
   next_exit : (node : Node) (word : ℕ) → Exits (next_at text graph node word)
-  next_exit node word =
-      cond_both (same_node node (node_in_order graph word)) _ exits.Behind Exits
-      (λ _. cond_both (nat_lt (word + 1) (length text.words)) _ _ Exits
-      (λ more. cond_both (is_slots text word) _ exits.Behind Exits
-      (λ _. let low = ltb-true (word + 1) (length text.words) more in
-      omega (arith, many, foreign_is text graph g, ordered_number text graph g (word + 1) low, low)) (λ _. tt))
-      (λ _. tt)) (λ _. tt)
+  next_exit node word = grind (arith, nat_tests, many, foreign_is text graph g, ordered_number text graph g (word + 1))
 
   module _ (node : Node) (word : ℕ) (at : IsAt text graph node word) where
     abbrev visit : OfWord
@@ -109,7 +322,7 @@ module _ (text : Words) (graph : Graph) (table cases : ℕ) (codes : ℕ → Lis
 
   image_by_made : (node : Node) (word : ℕ) → IsAt text graph node word → (instr : Instr)
       → decode_of (slice_index text.words word) ≡ instr
-      → Made 21 (code_by graph codes node word instr)
+      → Made 21 (code_by node word instr)
       (image_by text graph (jumps_at text table) cases (visit_of text graph node word) node word instr)
   image_by_made node word at (i.Branch c annul disp) e =
       let by = instead node word at (ap is_transfer e) in
@@ -155,15 +368,19 @@ module _ (text : Words) (graph : Graph) (table cases : ℕ) (codes : ℕ → Lis
   idle_made : {most : ℕ} → Made 8 most unused
   idle_made = made_bare [] (omega arith) (omega (arith, many)) (omega arith)
 
-  way_made : (number : ℕ) (edge : Edge) → IsEdgeIn graph.blocks graph.opens edge
-      → Made 8 (way_code codes number edge) (way_along text graph table number edge)
-  way_made number edge inside = by (is_fall edge.kind) (same_kind edge.kind kinds.Case)
+  way_made : (number : ℕ) → number < length own_edges → (o : Option Edge) → slice_get graph.edges number ≡ o
+      → Made 8 (way_code number o) (way_shape text graph table number o)
+  way_made number low None e = idle_made
+  way_made number low (Some edge) e = by (is_fall edge.kind) (same_kind edge.kind kinds.Case)
     where
-      by : (fall chosen : Bool) → Made 8 (if fall then 0 else if chosen then 0 else length (codes number))
+      by : (fall chosen : Bool)
+          → Made 8 (if not (same_kind edge.kind kinds.Land) && not fall && not chosen then length (codes number) else 0)
           (if fall then unused else
           if chosen then unused else way_by text graph table number edge (first_word graph edge.to) edge.slot)
       by false false =
-          way_by_made number edge _ inside (first_word_of text graph g edge.to inside.to) (one_code number) edge.slot refl
+          let inside = each_at _ graph.edges number edge g.edges e in
+          rw (g.no_landings number edge low e)
+          (way_by_made number edge _ inside (first_word_of text graph g edge.to inside.to) (one_code number) edge.slot refl)
       by _ _ = idle_made
 
   -- ---- Case edges
@@ -173,42 +390,33 @@ module _ (text : Words) (graph : Graph) (table cases : ℕ) (codes : ℕ → Lis
       → Made 8 (code_length codes numbers) (case_by text graph table word numbers)
   case_by_made o word l [] e = idle_made
   case_by_made o word l (number ∷ rest) e =
-      let edge = get_or graph.edges number no_edge in
-      let found =
-      position-Some (Goes text graph g o.block word) graph.edges number no_edge (number_of_list _ number rest e) in
-      let here = slice_get-get_or graph.edges number no_edge found.0 in
-      let inside = case_reaches text graph g o.block word number rest edge l e here in
-      rw here (way_by_made number edge word (each_at _ graph.edges number edge g.edges here) inside
+      let found = position_at (Goes text graph g o.block word) graph.edges number (number_of_list _ number rest e) in
+      let edge = found.0 in
+      let inside = case_reaches text graph g o.block word number rest edge l e found.1 in
+      rw found.1 (way_by_made number edge word (each_at _ graph.edges number edge g.edges found.1) inside
       (omega (arith, one_code number, length-append (codes number) (flat_map codes rest))) edge.slot refl)
-
-  case_made : (o : Open) (entry word : ℕ) → word < length text.words
-      → Made 8 (case_code graph codes (o, word)) (shape_of text graph table cases (entry_label o entry word))
-  case_made o entry word l =
-      cond_both (place_in o.targets word == entry) (Case o.block word) Spare
-      (λ (x : Label). Made 8 (case_code graph codes (o, word)) (shape_of text graph table cases x))
-      (λ _. case_by_made o word l (case_edge graph o word) refl) (λ _. idle_made)
 
   -- ---- all of them: where a snippet isn't long, no piece is
 
   abbrev AreFew : Type 0
   AreFew = (number : ℕ) → length (codes number) ≤ 176
 
-  -- what holds of each piece
-  record IsPiece (s : Shape) : Type 0 where
-    few : AreFew → length (items_of codes s) ≤ 197
-    shaped : IsShaped text graph (length shapes) s
-
-  abbrev words_by : Shape → ℕ
-  words_by s = piece_words (items_of codes s)
-
-  abbrev marks_by : Shape → ℕ
-  marks_by s = marks_in (items_of codes s)
-
-  -- Shapes whose pieces have at most so many words and Marks.
   abbrev shape : Label → Shape
   shape = shape_of text graph table cases
 
-  record Have (words marks : ℕ) (list : List Shape) : Type 0 where
+  -- what holds of each piece
+  record IsPiece (x : Label) : Type 0 where
+    few : AreFew → length (items_of codes (shape x)) ≤ 197
+    shaped : IsShaped text graph (length shapes) (shape x)
+
+  abbrev words_by : Label → ℕ
+  words_by x = piece_words (items_of codes (shape x))
+
+  abbrev marks_by : Label → ℕ
+  marks_by x = marks_in (items_of codes (shape x))
+
+  -- labels whose pieces have at most so many words and Marks
+  record Have (words marks : ℕ) (list : List Label) : Type 0 where
     each : Each IsPiece list
     words_few : sum_by words_by list ≤ words
     marks_few : sum_by marks_by list ≤ marks
@@ -216,39 +424,43 @@ module _ (text : Words) (graph : Graph) (table cases : ℕ) (codes : ℕ → Lis
   none : Have 0 0 []
   none = record { each = tt; words_few = omega arith; marks_few = omega arith }
 
-  within : {words marks more_words more_marks : ℕ} {list : List Shape} → words ≤ more_words → marks ≤ more_marks
+  within : {words marks more_words more_marks : ℕ} {list : List Label} → words ≤ more_words → marks ≤ more_marks
       → Have words marks list → Have more_words more_marks list
   within more_words more_marks have = search arith
 
-  joined : {words marks more_words more_marks : ℕ} (xs ys : List Label) → Have words marks (map shape xs)
-      → Have more_words more_marks (map shape ys)
-      → Have (words + more_words) (marks + more_marks) (map shape (xs ++ ys))
-  joined xs ys one other = rw (map-append shape xs ys) (record {
-    each = each-append IsPiece (map shape xs) (map shape ys) one.each other.each;
-    words_few = omega (arith, one.words_few, other.words_few, sum_by-append words_by (map shape xs) (map shape ys));
-    marks_few = omega (arith, one.marks_few, other.marks_few, sum_by-append marks_by (map shape xs) (map shape ys));
-  })
+  joined : {words marks more_words more_marks : ℕ} {xs ys : List Label} → Have words marks xs
+      → Have more_words more_marks ys → Have (words + more_words) (marks + more_marks) (xs ++ ys)
+  joined {xs = xs} {ys = ys} one other =
+      let each = each-append IsPiece xs ys one.each other.each in
+      search (arith, sum_by-append words_by xs ys, sum_by-append marks_by xs ys)
 
-  one_piece : {size marks most : ℕ} {s : Shape} → size ≤ 21 → (AreFew → most ≤ 176)
-      → IsMade text graph codes (length shapes) marks size most s → Have (size + most) marks (s ∷ [])
-  one_piece {s = s} short few made =
-      let is = sized codes s made.shaped in
-      let large = made.large in
-      let coded = made.coded in
+  one_piece : {size marks most : ℕ} {x : Label} → size ≤ 21 → (AreFew → most ≤ 176)
+      → IsMade text graph codes (length shapes) marks size most (shape x) → Have (size + most) marks (x ∷ [])
+  one_piece {x = x} short few made =
+      let is = sized codes (shape x) made.shaped in
       record {
-        each = (record { few = λ f. omega (arith, is.few, few f, short, large, coded); shaped = made.shaped }, tt);
-        words_few = omega (arith, is.words, large, coded, sum_by-cons words_by s []);
-        marks_few = omega (arith, is.marks, made.once, sum_by-cons marks_by s []);
+        each = (record { few = λ f. omega (arith, few f); shaped = made.shaped }, tt);
+        words_few = omega (arith, sum_by-cons words_by x []);
+        marks_few = omega (arith, sum_by-cons marks_by x []);
       }
 
-  -- one for each item of a list, of so many words and those of its snippets
-  mapped : {A : Type 0} (f : A → Label) (base marks : ℕ) (code : A → ℕ) (xs : List A)
-      → Each (λ x. Have (base + code x) marks (shape (f x) ∷ [])) xs
-      → Have (length xs * base + sum_by code xs) (length xs * marks) (map shape (map f xs))
-  mapped f base marks code [] have = within (omega arith) (omega arith) none
-  mapped f base marks code (x ∷ xs) have =
-      within (omega (arith, sum_by-cons code x xs)) (omega arith)
-      (joined (f x ∷ []) (map f xs) have.0 (mapped f base marks code xs have.1))
+  -- some for each item of a list
+  all_of : {A : Type 0} (f : A → List Label) (base : ℕ) (count code marks : A → ℕ) (xs : List A)
+      → Each (λ x. Have (base * count x + code x) (marks x) (f x)) xs
+      → Have (base * sum_by count xs + sum_by code xs) (sum_by marks xs) (flat_map f xs)
+  all_of f base count code marks [] have = within (omega arith) (omega arith) none
+  all_of f base count code marks (x ∷ xs) have =
+      within (simp sum_by-cons (omega arith)) (simp sum_by-cons (omega arith))
+      (joined have.0 (all_of f base count code marks xs have.1))
+
+  -- one for each number
+  numbered_of : (f : ℕ → Label) (base : ℕ) (code : ℕ → ℕ) (marks n : ℕ)
+      → ((k : ℕ) → k < n → Have (base + code k) marks (f k ∷ []))
+      → Have (n * base + sum_by code (below n)) (n * marks) (map f (below n))
+  numbered_of f base code marks zero have = within (omega arith) (omega arith) none
+  numbered_of f base code marks (suc n) have =
+      rw (map-append f (below n) (n ∷ [])) (within (omega (arith, sum_by-append code (below n) (n ∷ []))) (omega arith)
+      (joined (numbered_of f base code marks n (λ k l. have k (omega (arith, l)))) (have n (omega arith))))
 
   -- ---- the parts
 
@@ -256,187 +468,83 @@ module _ (text : Words) (graph : Graph) (table cases : ℕ) (codes : ℕ → Lis
   optional_few f None = omega arith
   optional_few f (Some number) = omega (arith, f number, one_code number)
 
-  image_few : AreFew → (node : Node) (word : ℕ) → image_code text graph codes node word ≤ 176
-  image_few f node word =
-      cond_both (is_transfer (decode_of (slice_index text.words word))) 0 _ (λ (n : ℕ). n ≤ 176) (λ _. omega arith) (λ e.
-      rw (straight_left graph node word (decode_of (slice_index text.words word)) e) (cond_both (ends_block graph node word) _ _
-      (λ (edges : List ℕ). code_length codes edges ≤ 176) (λ _. optional_few f _) (λ _. omega arith)))
-
-  abbrev image_at : Node → ℕ → Shape
-  image_at = image text graph (jumps_at text table) cases
-
   one_image : (node : Node) (word : ℕ) → IsAt text graph node word
-      → Have (21 + image_code text graph codes node word) 1 (image_at node word ∷ [])
+      → Have (21 + image_code node word) 1 (Image node word ∷ [])
   one_image node word at =
-      one_piece (omega arith) (λ f. image_few f node word)
+      one_piece (omega arith) (λ f. code_is (λ n. n ≤ 176) node word (omega arith) (λ _ _. optional_few f _))
       (image_by_made node word at (decode_of (slice_index text.words word)) refl)
 
-  -- the node of a word's image in the order of the text is one of the graph's
-  ordered_in : (word : ℕ) → word < length text.words → IsAt text graph (node_in_order graph word) word
-  ordered_in word l =
-      let held = in_held graph.blocks.words graph.blocks.firsts g.cut.firsts word (omega (arith, l, g.cut.words)) in
-      record {
-        inside = cond_both (jumps_in graph.opens (holding_of graph.blocks word)) _ _
-            (IsNodeIn graph.blocks graph.opens) (λ h. (held.within, or_left _ _ h)) (λ _. held.within);
-        low = l;
-      }
-
-  have_ordered : Have (length (below (length text.words)) * 21
-      + sum_by (order_code text graph codes) (below (length text.words))) (length (below (length text.words)) * 1)
-      (map shape (labels_in_order text graph))
-  have_ordered =
-      mapped (λ word. Image (node_in_order graph word) word) 21 1 (order_code text graph codes)
-      (below (length text.words)) (each-below _ (length text.words)
-      (λ word l. one_image (node_in_order graph word) word (ordered_in word l)))
-
-  have_ways : (number : ℕ) (edges : List Edge)
-      → ((k : ℕ) (edge : Edge) → slice_get edges k ≡ Some edge → slice_get graph.edges (number + k) ≡ Some edge)
-      → Have (8 * length edges + ways_code codes number edges) (length edges)
-      (map shape (map Way (range_with_len number (length edges))))
-  have_ways number [] are = none
-  have_ways number (edge ∷ edges) are =
-      let here : number + 0 ≡ number = omega arith in
-      let at : slice_get graph.edges number ≡ Some edge = ap (slice_get graph.edges) (sym here) ∙ are 0 edge refl in
-      within (omega arith) (omega arith) (joined (Way number ∷ []) (map Way (range_with_len (number + 1) (length edges)))
-      (one_piece (omega arith)
-      (λ f. cond_both (is_fall edge.kind) 0 _ (λ (n : ℕ). n ≤ 176) (λ _. omega arith)
-      (λ _. cond_both (same_kind edge.kind kinds.Case) 0 _ (λ (n : ℕ). n ≤ 176) (λ _. omega arith) (λ _. f number)))
-      (subst (λ (o : Option Edge). Made 8 (way_code codes number edge) (way_shape text graph table number o)) (sym at)
-      (way_made number edge (each_at _ graph.edges number edge g.edges at))))
-      (have_ways (number + 1) edges (λ k other e.
-      let next : number + 1 + k ≡ number + suc k = omega arith in
-      ap (slice_get graph.edges) next ∙ are (suc k) other e)))
-
-  have_landings : Have (length (below (length text.words)) * 4
-      + sum_by (landing_code graph codes) (below (length text.words))) (length (below (length text.words)) * 0)
-      (map shape (map Landing (below (length text.words))))
-  have_landings =
-      mapped Landing 4 0 (landing_code graph codes) (below (length text.words))
-      (each-below _ (length text.words) (λ word l. one_piece (omega arith) (λ f. optional_few f _)
-      (made_bare (landing_at graph (lands graph (Some word))) (omega arith)
-      (entered (lands graph (Some word)) word (lands_word text graph g word l)) (omega arith))))
-
   have_cases : (o : Open) (entry : ℕ) (words : List ℕ) → Each (λ word. word < length text.words) words
-      → Have (8 * length words + sum_by (λ word. case_code graph codes (o, word)) words) (length words)
-      (map shape (map (λ (p : ℕ × ℕ). entry_label o p.0 p.1) (enumerate_from entry words)))
+      → Have (8 * length words + sum_by (λ word. case_code (o, word)) words) (length words)
+      (map (λ (p : ℕ × ℕ). entry_label o p.0 p.1) (enumerate_from entry words))
   have_cases o entry [] low = none
   have_cases o entry (word ∷ words) low =
-      within (omega (arith, sum_by-cons (λ (w : ℕ). case_code graph codes (o, w)) word words)) (omega arith)
-      (joined (entry_label o entry word ∷ []) (map (λ (p : ℕ × ℕ). entry_label o p.0 p.1) (enumerate_from (entry + 1) words))
-      (one_piece (omega arith) (λ f. optional_few f _) (case_made o entry word low.0))
+      within (simp sum_by-cons (omega arith)) (omega arith)
+      (joined (one_piece (omega arith) (λ f. optional_few f _)
+      (cond_both (place_in o.targets word == entry) (Case o.block word) Spare (λ x. Made 8 (case_code (o, word)) (shape x))
+      (λ _. case_by_made o word low.0 (case_edge o word) refl) (λ _. idle_made)))
       (have_cases o (entry + 1) words low.1))
 
-  have_chosen : (opens : List Open) → Each (λ (o : Open). Each (λ word. word < length text.words) o.targets) opens
-      → Have (8 * sum_by (λ (o : Open). length o.targets) opens + sum_by (case_code graph codes) (entries_in opens))
-      (sum_by (λ (o : Open). length o.targets) opens)
-      (map shape (flat_map entry_labels opens))
-  have_chosen [] low = none
-  have_chosen (o ∷ opens) low =
-      within
-      (omega (
-        arith,
-        sum_by-append (case_code graph codes) (map (λ (w : ℕ). (o, w)) o.targets) (entries_in opens),
-        fold-map (λ (a : ℕ) (p : Open × ℕ). a + case_code graph codes p) (λ (w : ℕ). (o, w)) 0 o.targets,
-        sum_by-cons (λ (p : Open). length p.targets) o opens,
-      ))
-      (omega (arith, sum_by-cons (λ (p : Open). length p.targets) o opens))
-      (joined (entry_labels o) (flat_map entry_labels opens) (have_cases o 0 o.targets low.0) (have_chosen opens low.1))
-
   -- the images of some words of a block that ends in a transfer
-  have_block : (node : Node) → IsNodeIn graph.blocks graph.opens node → (k : ℕ)
-      → ((word : ℕ) → ends_block graph node word ≡ (word == last_word graph.blocks.firsts graph.blocks.words k))
-      → is_transfer (decode_of (slice_index text.words (last_word graph.blocks.firsts graph.blocks.words k))) ≡ true
+  have_block : (node : Node) → IsNodeIn graph.blocks graph.opens node
+      → is_transfer (decode_of (slice_index text.words (last_in graph node))) ≡ true
       → (from count : ℕ) → from + count ≤ length text.words
-      → Have (21 * count) count (map shape (map (Image node) (range_with_len from count)))
-  have_block node inside k at ends from zero low = none
-  have_block node inside k at ends from (suc count) low =
-      within (omega (arith, no_code text graph codes node k from (at from) ends)) (omega arith)
-      (joined (Image node from ∷ []) (map (Image node) (range_with_len (from + 1) count))
-      (one_image node from (record { inside = inside; low = omega (arith, low) }))
-      (have_block node inside k at ends (from + 1) count (omega (arith, low))))
+      → Have (21 * count) count (map (Image node) (range_with_len from count))
+  have_block node inside ends from zero low = none
+  have_block node inside ends from (suc count) low =
+      within (omega (arith, no_code node from ends)) (omega arith)
+      (joined (one_image node from (record { inside = inside; low = omega (arith, low) }))
+      (have_block node inside ends (from + 1) count (omega (arith, low))))
 
   save_made : (instr : Instr) → IsMade text graph codes (length shapes) 0 4 0 (save_by instr)
   save_made (i.Load kind rd rs1 op2) = made_bare [] (omega arith) (omega arith) (omega arith)
   save_made _ = made_bare [] (omega arith) tt (omega arith)
 
-  have_open : (o : Open) → IsSwitchIn text graph.blocks o → is_copied graph.opens o.switch.compare.0 ≡ true
-      → Have (21 * pieces_of graph o) (words_of graph.blocks o) (map shape (switch_labels text graph o))
-  have_open o its copied =
-      let first = slice_index graph.blocks.firsts o.block in
-      let load = load_of text o in
-      let some = some_words graph.blocks.words graph.blocks.firsts g.cut.firsts o.block its.block_in in
-      let ends = block_end_within text graph codes g o.block its.block_in in
-      let images = have_block (block o.block) its.block_in o.block (λ word. refl) its.jumps in
-      let compared = map (Image (copy o.switch.compare.0)) (range_with_len (slice_index graph.blocks.firsts o.switch.compare.0)
-      (size_of graph.blocks o.switch.compare.0)) in
-      let before_load = map (Image (block o.block)) (range_with_len first (load - first)) in
-      let from_load = map (Image (block o.block)) (range_with_len load (first + size_of graph.blocks o.block - load)) in
-      within (omega (arith, some, its.above, its.below)) (omega (arith, some, its.above, its.below))
-      (joined (compared ++ before_load) (Save o.block load ∷ from_load) (joined compared before_load
-      (have_block (copy o.switch.compare.0) (its.compare_in, copied) o.switch.compare.0 (λ word. refl)
-      its.branches (slice_index graph.blocks.firsts o.switch.compare.0) (size_of graph.blocks o.switch.compare.0)
-      (block_end_within text graph codes g o.switch.compare.0 its.compare_in))
-      (images first (load - first) (omega (arith, some, its.above, its.below, ends))))
-      (joined (Save o.block load ∷ []) from_load (one_piece (omega arith) (λ f. omega arith) (save_made (decode_of (slice_index text.words load))))
-      (images load (first + size_of graph.blocks o.block - load) (omega (arith, some, its.above, its.below, ends)))))
-
-  have_opens : (opens : List Open) → Each (λ (o : Open). IsSwitchIn text graph.blocks o
-      × (is_copied graph.opens o.switch.compare.0 ≡ true)) opens
-      → Have (21 * sum_by (pieces_of graph) opens) (sum_by (words_of graph.blocks) opens)
-      (map shape (flat_map (switch_labels text graph) opens))
-  have_opens [] its = none
-  have_opens (o ∷ opens) its =
-      within (omega (arith, sum_by-cons (pieces_of graph) o opens))
-      (omega (arith, sum_by-cons (words_of graph.blocks) o opens))
-      (joined (switch_labels text graph o) (flat_map (switch_labels text graph) opens) (have_open o its.0.0 its.0.1)
-      (have_opens opens its.1))
-
-  ways_in_range : (n : ℕ) → map Way (below n) ≡ map Way (range_with_len 0 n)
-  ways_in_range zero = refl
-  ways_in_range (suc n) =
-      let next : n + 1 ≡ suc n = omega arith in
-      map-append Way (below n) (n ∷ []) ∙ ap (λ (xs : List Label). xs ++ Way n ∷ []) (ways_in_range n)
-      ∙ sym (map-range_with_len_more Way 0 n n (omega arith)) ∙ ap (λ (m : ℕ). map Way (range_with_len 0 m)) next
+  have_open : (k : ℕ) (o : Open) → slice_get graph.opens k ≡ Some o
+      → Have (21 * pieces_of graph o + 0) (words_of graph.blocks o) (switch_labels text graph o)
+  have_open k o e =
+      let its = switch_in text graph g k o e in
+      let load = load_in text graph g k o e in
+      let ends = block_end_within o.block its.block_in in
+      let images = have_block (block o.block) its.block_in its.jumps in
+      let copied = or_right (jumps_in graph.opens o.switch.compare.0) _
+      (any_at (λ (x : Open). x.switch.compare.0 == o.switch.compare.0) graph.opens k o e (eq-eqb _ _ refl)) in
+      within (omega arith) (omega arith)
+      (joined (joined (have_block (copy o.switch.compare.0) (its.compare_in, copied) its.branches _ _
+      (block_end_within o.switch.compare.0 its.compare_in)) (images _ _ (omega arith)))
+      (joined (one_piece (omega arith) (λ f. omega arith) (save_made (decode_of (slice_index text.words (load_of text o)))))
+      (images _ _ (omega arith))))
 
   -- ---- all of them
 
   opened_many : (opens : List Open)
       → sum_by (pieces_of graph) opens ≡ sum_by (words_of graph.blocks) opens + length opens
   opened_many [] = omega arith
-  opened_many (o ∷ opens) =
-      let pieces = sum_by-cons (pieces_of graph) o opens in
-      omega (arith, pieces, sum_by-cons (words_of graph.blocks) o opens, opened_many opens)
+  opened_many (o ∷ opens) = simp sum_by-cons (omega (arith, opened_many opens))
 
-  have_all : Have (21 * length text.words + sum_by (order_code text graph codes) (below (length text.words))
-      + (8 * length (edges_but_landings graph) + ways_code codes 0 (edges_but_landings graph))
-      + (4 * length text.words + sum_by (landing_code graph codes) (below (length text.words)))
-      + 21 * sum_by (pieces_of graph) graph.opens
-      + (8 * sum_by (λ (o : Open). length o.targets) graph.opens
-      + sum_by (case_code graph codes) (entries_in graph.opens)) + 4)
-      (8 * length text.words) shapes
-  unfolding piece_labels shape_list
+  have_all : Have (115 * length text.words + code_words + 4) (8 * length text.words) labels
+  unfolding piece_labels
   have_all =
-      let sizes = length-below (length text.words) in
-      let ordered = labels_in_order text graph in
-      let ways = map Way (below (length (edges_but_landings graph))) in
-      let landings = map Landing (below (length text.words)) in
-      let switches = flat_map (switch_labels text graph) graph.opens in
-      let entries = flat_map entry_labels graph.opens in
-      let own = edges_but_landings graph in
-      let along : Have (8 * length own + ways_code codes 0 own) (length own) (map shape ways) =
-      subst (λ (labels : List Label). Have (8 * length own + ways_code codes 0 own) (length own) (map shape labels))
-      (sym (ways_in_range (length own))) (have_ways 0 own (λ k edge e.
-      let here : 0 + k ≡ k = omega arith in ap (slice_get graph.edges) here ∙ g.own k edge e)) in
-      within (omega (arith, sizes)) (omega (arith, sizes, g.room, g.entries, g.own_few))
-      (joined (ordered ++ ways ++ landings ++ switches ++ entries) (Foreign ∷ [])
-      (joined (ordered ++ ways ++ landings ++ switches) entries (joined (ordered ++ ways ++ landings) switches
-      (joined (ordered ++ ways) landings (joined ordered ways have_ordered along) have_landings)
-      (have_opens graph.opens (each_index _ graph.opens (λ k o e. (
-        each_at _ graph.opens k o g.switches e,
-        or_right (jumps_in graph.opens o.switch.compare.0) _
-            (any_at (λ (x : Open). x.switch.compare.0 == o.switch.compare.0) graph.opens k o e (eq-eqb _ _ refl)),
-      )))))
-      (have_chosen graph.opens g.targets))
+      -- the node of a word's image in the order of the text is one of the graph's
+      let ordered =
+      numbered_of (λ word. Image (node_in_order graph word) word) 21 order_code 1 (length text.words) (λ word l.
+      let held = in_held graph.blocks.words graph.blocks.firsts g.cut.firsts word (omega (arith, l, g.cut.words)) in
+      one_image (node_in_order graph word) word (record { inside = grind (arith, held.within); low = l })) in
+      let ways = numbered_of Way 8 (λ way. way_code way (slice_get graph.edges way)) 1 (length own_edges) (λ way l.
+      one_piece (omega arith) (λ f. grind (arith, f way)) (way_made way l _ refl)) in
+      let landings = numbered_of Landing 4 landing_code 0 (length text.words) (λ word l.
+      one_piece (omega arith) (λ f. optional_few f _) (made_bare _ (omega arith)
+      (entered (lands graph (Some word)) word (lands_word text graph g word l)) (omega arith))) in
+      let opens = all_of (switch_labels text graph) 21 (pieces_of graph) (λ o. 0) (words_of graph.blocks) graph.opens
+      (each_index _ graph.opens have_open) in
+      let code : Open → ℕ = λ o. sum_by (λ word. case_code (o, word)) o.targets in
+      let chosen = all_of entry_labels 8 (λ (o : Open). length o.targets) code (λ (o : Open). length o.targets) graph.opens
+      (each-then _ _ graph.opens (λ o low. have_cases o 0 o.targets low) g.targets) in
+      let none = sum_by-le (λ (o : Open). 0) 0 graph.opens (λ k d l. omega arith) in
+      let entries : sum_by case_code (entries_in graph.opens) ≡ sum_by code graph.opens = simp (sum_flat, fold-map) in
+      within (omega (arith, none, entries, opened_many graph.opens, g.room, g.few, g.entries, g.own_few))
+      (omega (arith, g.room, g.entries, g.own_few))
+      (joined (joined (joined (joined (joined ordered ways) landings) opens) chosen)
       (one_piece {size = 4} {marks = 0} {most = 0} (omega arith) (λ f. omega arith)
       (made_bare [] (omega arith) tt (omega arith))))
 
@@ -449,79 +557,51 @@ module _ (text : Words) (graph : Graph) (table cases : ℕ) (codes : ℕ → Lis
   count = length-map shapes (items_of codes)
 
   -- a property of each piece, at a piece's number
-  at_piece : (P : Option (List Item) → Type 0) → P None → ((s : Shape) → IsPiece s → P (Some (items_of codes s)))
-      → (k : ℕ) → P (slice_get pieces k)
-  at_piece P none some k = rw (slice_get-map (items_of codes) shapes k) (by (slice_get shapes k) refl)
+  at_piece : (P : Option (List Item) → Type 0) → P None
+      → ((x : Label) → IsPiece x → P (Some (items_of codes (shape x)))) → (k : ℕ) → P (slice_get pieces k)
+  unfolding shape_list
+  at_piece P none some k =
+      rw (slice_get-map (items_of codes) (map shape labels) k, slice_get-map shape labels k) (by (slice_get labels k) refl)
     where
-      by : (o : Option Shape) → slice_get shapes k ≡ o → P (option_map (items_of codes) o)
+      by : (o : Option Label) → slice_get labels k ≡ o → P (option_map (items_of codes) (option_map shape o))
       by None e = none
-      by (Some s) e = some s (each_at _ shapes k s have_all.each e)
-
-  pub item_says : (k n : ℕ) (address : Addr) (node : ℕ) → item_at pieces k n ≡ Some (it.Mark address node)
-      → (word : ℕ) → word_at text address.0 ≡ Some word → is_transfer (decode_of (slice_index text.words word)) ≡ false
-      → item_at pieces k (suc n) ≡ Some (it.Word (slice_index text.words word))
-  item_says k n address node e word at plain =
-      at_piece (λ o. item_in o n ≡ Some (it.Mark address node)
-      → item_in o (suc n) ≡ Some (it.Word (slice_index text.words word))) (λ q. absurd (cc))
-      (λ s its q. mark_says codes s its.shaped n address node q word at plain) k e
+      by (Some x) e = some x (each_at _ labels k x have_all.each e)
 
   -- the shape of each piece
   pub piece_shaped : (k : ℕ) (items : List Item) → slice_get (piece_list text graph table cases codes) k ≡ Some items
       → (s : Shape) × (items ≡ items_of codes s) × IsShaped text graph (length shapes) s
   piece_shaped k items =
       at_piece (λ o. o ≡ Some items → (s : Shape) × (items ≡ items_of codes s) × IsShaped text graph (length shapes) s)
-      (λ e. absurd (cc)) (λ s its e. (s, cc, its.shaped)) k
-
-  -- so many pieces
-  few_pieces : length shapes ≤ 10 * length text.words + 1
-  few_pieces =
-      omega (arith, many, foreign_is text graph g, opened_many graph.opens, g.own_few, g.room, g.few, g.entries)
+      (λ e. absurd (cc)) (λ x its e. (shape x, cc, its.shaped)) k
 
   -- ---- they fit
+
+  by_labels : (f : List Item → ℕ) → sum_by f pieces ≡ sum_by (λ x. f (items_of codes (shape x))) labels
+  unfolding shape_list
+  by_labels f = simp fold-map
 
   pub fits : (snips : List (List Op)) → AreShort snips codes → AreFit text graph snips pieces
   fits snips short =
       let few : AreFew = (λ number. omega (arith, short.short number, short.few number)) in
-      let items = sum_by-le (λ s. length (items_of codes s)) 197 shapes (λ k d l.
-      (each_at IsPiece shapes k _ have_all.each (slice_get-get_or shapes k d l)).few few) in
-      let snippets = snippets_few text graph codes g snips short in
-      let opened = opened_many graph.opens in
+      let items = sum_by-le (λ x. length (items_of codes (shape x))) 197 labels (λ k d l.
+      (each_at IsPiece labels k _ have_all.each (slice_get-get_or labels k d l)).few few) in
+      let foreign = foreign_is text graph g in
+      let few_pieces : length shapes ≤ 10 * length text.words + 1 =
+      omega (arith, many, foreign, opened_many graph.opens, g.own_few, g.room, g.few, g.entries) in
       record {
         pieces = record {
           count = omega (arith, few_pieces, is.few, count);
-          items = omega (
-            arith,
-            items,
-            few_pieces,
-            is.few,
-            fold-map (λ a (items : List Item). a + length items) (items_of codes) 0 shapes,
-          );
+          items = omega (arith, items, few_pieces, labelled, is.few, by_labels length);
           leads = λ k n. rw count (at_piece (λ (o : Option (List Item)). LeadsBelow (length shapes) (item_in o n)) tt
-              (λ s its. (sized codes s its.shaped).leads n) k);
-          marked = at_piece IsMarked tt (λ s its. well_marked codes s its.shaped);
+              (λ x its. (sized codes (shape x) its.shaped).leads n) k);
+          marked = at_piece IsMarked tt (λ x its. well_marked codes (shape x) its.shaped);
         };
-        images = omega (arith, count, many, foreign_is text graph g);
+        images = omega (arith, count, many, foreign);
         landings = λ word l. omega (arith, count, labelled, lands_below text graph g snips word l);
         cases = λ entry number e. omega (arith, count, labelled, case_number_below text graph g entry number e);
         foreign = omega (arith, count, many);
-        marks = omega (
-          arith,
-          have_all.marks_few,
-          is.few,
-          fold-map (λ a (items : List Item). a + marks_in items) (items_of codes) 0 shapes,
-        );
-        bytes = omega (
-          arith,
-          have_all.words_few,
-          snippets,
-          opened,
-          g.room,
-          g.few,
-          g.entries,
-          g.own_few,
-          is.few,
-          fold-map (λ a (items : List Item). a + piece_words items) (items_of codes) 0 shapes,
-        );
+        marks = omega (arith, have_all.marks_few, is.few, by_labels marks_in);
+        bytes = omega (arith, have_all.words_few, snippets_few snips short, is.few, by_labels piece_words);
       }
 
 pub pieces_fit : PiecesFit
@@ -530,6 +610,8 @@ pieces_fit text graph table cases snips codes is h low short = fits text graph t
 pub places_say : PlacesSay
 places_say text graph table cases codes base p place is h laid n r e word at plain =
     let m = laid.marks n r e in
-    let item = item_says text graph table cases codes is h m.piece m.item m.address r.node m.mark word
-    (rw (← m.says) at) plain in
-    rw m.lo (laid.items m.piece (suc m.item) (it.Word (slice_index text.words word)) item).1
+    let item =
+    at_piece text graph table cases codes is h (λ o. item_in o m.item ≡ Some (it.Mark m.address r.node)
+    → item_in o (suc m.item) ≡ Some (it.Word (slice_index text.words word))) (λ q. absurd (cc))
+    (λ x its q. mark_says codes _ its.shaped m.item m.address r.node q word (rw (← m.says) at) plain) m.piece m.mark in
+    rw m.lo (laid.items m.piece (suc m.item) _ item).1

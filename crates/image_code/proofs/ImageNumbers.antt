@@ -1,28 +1,18 @@
--- Where the image of a word at a node stands, and where control enters it: in the order of the text, or among the pieces
--- of an open switch.
-use Rattle.image_code.proofs.Common.{◌⊎◌, ◌≡◌, ℕ, suc, ◌+◌, ◌-◌, ◌<◌, ◌≤◌, true, false, Bool, Option, Some, None, List, [], ◌∷◌, length, refl, ap, sym, ◌∙◌, arith, subst, inl, inr, if◌then◌else◌, ◌==◌, nat_lt, slice_get, slice_index, list_any, position, find, cases_Bool, cases_eq, cases_lt, eq-eqb, eqb-true, ne_eqb, le-ltb, nat_tests, Words, Blocks, block_end, holding_of, size_of, Node, Block, Landed, X, home_of, IsNodeIn, IsIn, Open, jumps_in, Graph, graph_of, block, copy, compares_in, in_held, or-false, load_of, open_begin}
-use Rattle.image_code.specs.Labels.{Image, Label, Save, entering, enter_number, image_number, is_saved, number_of, jump_number, node_in_order, piece_labels, switch_at}
-use Rattle.image_code.proofs.Listed.{compare_stands, image_stands, jump_of, load_stands, number_is, ordered_stands, save_stands}
+-- Where the image of a word at a node stands, and where control enters it.
+use Rattle.image_code.proofs.Common.{◌≡◌, ℕ, suc, ◌+◌, ◌-◌, ◌<◌, ◌≤◌, true, false, Bool, Some, None, List, [], ◌∷◌, length, refl, ap, sym, ◌∙◌, arith, subst, inl, inr, if◌then◌else◌, ◌==◌, nat_lt, slice_get, slice_index, list_any, find, cases_Bool, cases_eq, eq-eqb, eqb-true, ne_eqb, le-ltb, nat_tests, Words, Blocks, block_end, holding_of, size_of, Node, Block, Landed, X, home_of, IsNodeIn, IsIn, Open, jumps_in, Graph, graph_of, block, copy, compares_in, in_held, or-false, load_of, open_begin, image, jumps_at, shape_list, shape_of}
+use Rattle.image_code.specs.Labels.{Image, Label, Save, entering, enter_number, image_number, number_of, jump_number, node_in_order, piece_labels, switch_at}
+use Rattle.image_code.proofs.Listed.{compare_stands, image_stands, jump_of, load_stands, number_is, ordered_stands, save_stands, shape_at}
 use Rattle.image_code.proofs.OpenBlocks.{IsTextGraph}
 use Rattle.image_code.proofs.Positions.{StandsIn, placed}
 
-module _ (text : Words) (b : Blocks) (opens : List Open) where
-  abbrev its_graph : Graph
-  its_graph = graph_of b opens
-
-  -- the open switch whose jump ends the block
-  pub jump_numbered : (k : ℕ) → jumps_in opens k ≡ true
-      → (j : ℕ) × (o : Open) × (jump_number text its_graph o.block ≡ Some j) × (slice_get opens j ≡ Some o)
-      × (o.block ≡ k)
-  jump_numbered k e =
-      let found = placed (λ (o : Open). o.block == k) opens e in
-      let same : found.item.block ≡ k = eqb-true (found.item.block) k found.passes in (
-        found.number,
-        found.item,
-        ap (λ n. position (λ (q : Open). q.block == n) opens) same ∙ found.at,
-        found.is,
-        same,
-      )
+-- the open switch whose jump ends the block
+pub jump_numbered : (text : Words) (b : Blocks) (opens : List Open) (k : ℕ) → jumps_in opens k ≡ true
+    → (j : ℕ) × (o : Open) × (jump_number text (graph_of b opens) o.block ≡ Some j) × (slice_get opens j ≡ Some o)
+    × (o.block ≡ k)
+jump_numbered text b opens k e =
+    let found = placed (λ (o : Open). o.block == k) opens e in
+    let same : found.item.block ≡ k = eqb-true found.item.block k found.passes in
+    (found.number, found.item, rw same found.at, found.is, same)
 
 -- none that passes is found
 pub not_found : {A : Type 0} (p : A → Bool) (xs : List A) → list_any p xs ≡ false → find p xs ≡ None
@@ -41,9 +31,7 @@ module _ (text : Words) (graph : Graph) (g : IsTextGraph text graph) where
   not_switched k none = not_found (λ (o : Open). o.block == k) graph.opens none
 
   pub unsaved : (k word : ℕ) → jumps_in graph.opens k ≡ false → entering text graph (block k) word ≡ Image (block k) word
-  unsaved k word none =
-      ap (λ (o : Option Open). if is_saved text graph o word then Save k word else Image (block k) word)
-      (not_switched k none)
+  unsaved k word none = rw (not_switched k none)
 
   -- the open switch whose comparison stands in the block
   pub compare_numbered : (k : ℕ) → compares_in graph.opens k ≡ true
@@ -57,35 +45,25 @@ module _ (text : Words) (graph : Graph) (g : IsTextGraph text graph) where
   switch_found k o e =
       let found = placed (λ (q : Open). q.block == o.block) graph.opens (jump_of graph.opens k o e) in
       let same : found.item.block ≡ o.block = eqb-true found.item.block o.block found.passes in
-      found.first ∙ by found.number found.item found.is same (cases_lt found.number k)
-    where
-      by : (j : ℕ) (q : Open) → slice_get graph.opens j ≡ Some q → q.block ≡ o.block → (j < k) ⊎ (k ≤ j)
-          → Some q ≡ Some o
-      by j q is same (inl l) = absurd (g.apart j k q o l is e same)
-      by j q is same (inr m) = elim (cases_eq j k) [
-        | inl here ↦ sym is ∙ ap (slice_get graph.opens) here ∙ e
-        | inr other ↦ absurd (g.apart k j o q (omega (arith, m, other)) e is (sym same))
-      ]
+      let before = λ (l : found.number < k). g.apart found.number k found.item o l found.is e same in
+      let after = λ (l : k < found.number). g.apart k found.number o found.item l e found.is (sym same) in
+      let here : found.number ≡ k = omega (arith, before, after) in
+      found.first ∙ sym found.is ∙ rw here e
 
   -- the address of the load is saved, and no other word's
   pub comes : (k : ℕ) (o : Open) → slice_get graph.opens k ≡ Some o → (word : ℕ) (t : Bool)
       → (word == load_of text o) ≡ t
       → entering text graph (block o.block) word ≡ (if t then Save o.block word else Image (block o.block) word)
-  comes k o e word t is =
-      ap (λ (q : Option Open). if is_saved text graph q word then Save o.block word else Image (block o.block) word)
-      (switch_found k o e) ∙ ap (λ (t : Bool). if t then Save o.block word else Image (block o.block) word) is
+  comes k o e word t is = rw (switch_found k o e, is)
 
-  -- ---- at an open switch
-
+  -- at an open switch
   module _ (k : ℕ) (o : Open) (e : slice_get graph.opens k ≡ Some o) (word : ℕ)
       (above : slice_index b.firsts o.block ≤ word) (below : word < block_end b.firsts b.words o.block) where
     abbrev load : ℕ
     load = load_of text o
 
-    abbrev from : ℕ
-    from = open_begin text graph k + size_of b o.switch.compare.0 + (word - slice_index b.firsts o.block)
-
-    pub entry_stands : StandsIn all (entering text graph (block o.block) word) (from + (if nat_lt load word then 1 else 0))
+    pub entry_stands : StandsIn all (entering text graph (block o.block) word) (open_begin text graph k
+        + size_of b o.switch.compare.0 + (word - slice_index b.firsts o.block) + (if nat_lt load word then 1 else 0))
     entry_stands = elim (cases_eq word load) [
       | inl same ↦
           rw (comes k o e word true (eq-eqb word load same), same, le-ltb load load (omega arith))
@@ -103,8 +81,7 @@ module _ (text : Words) (graph : Graph) (g : IsTextGraph text graph) where
       let saved = number_is text graph g _ _ (save_stands text graph g k o e) in
       omega (arith, saved, number_is text graph g _ _ (load_stands text graph g k o e))
 
-  -- ---- the nodes of a word's block
-
+  -- the nodes of a word's block
   pub data HasImage (node : Node) (word : ℕ) : Type 0 where
     in_order : node ≡ node_in_order graph word → entering text graph node word ≡ Image node word → HasImage node word
     at_jump : (k : ℕ) (o : Open) → slice_get graph.opens k ≡ Some o → node ≡ block o.block
@@ -134,39 +111,36 @@ module _ (text : Words) (graph : Graph) (g : IsTextGraph text graph) where
 
   -- in the order of the text control comes to the image itself
   pub ordered_enters : (word : ℕ) → entering text graph (node_in_order graph word) word ≡ Image (node_in_order graph word) word
-  ordered_enters word = elim (cases_Bool (jumps_in graph.opens (holding_of b word))) [
-    | inl e ↦ rw e refl
-    | inr e ↦ rw e (unsaved (holding_of b word) word e)
-  ]
+  ordered_enters word = grind (arith, unsaved)
 
   in_block : (word : ℕ) → word < length text.words → (k : ℕ) → holding_of b word ≡ k → IsIn b.words b.firsts word k
   in_block word low k held =
-      subst (λ (n : ℕ). IsIn b.words b.firsts word n) held
-      (in_held b.words b.firsts g.cut.firsts word (omega (arith, low, g.cut.words)))
+      rw (← held) (in_held b.words b.firsts g.cut.firsts word (omega (arith, low, g.cut.words)))
 
   -- where both stand
-  pub record AreListed (node : Node) (word : ℕ) : Type 0 where
-    pub image : ℕ
-    pub visited : StandsIn all (Image node word) image
-    pub enter : ℕ
-    pub entered : StandsIn all (entering text graph node word) enter
-
-  pub listed : (node : Node) (word : ℕ) → word < length text.words → HasImage node word → AreListed node word
+  pub listed : (node : Node) (word : ℕ) → word < length text.words → HasImage node word
+      → (image : ℕ) × (enter : ℕ) × StandsIn all (Image node word) image × StandsIn all (entering text graph node word) enter
   listed node word low (in_order same enters) =
       let stands : StandsIn all (Image node word) word = rw same (ordered_stands text graph g word low) in
-      record { image = word; visited = stands; enter = word; entered = rw enters stands }
+      (word, word, stands, rw enters stands)
   listed node word low (at_jump k o e here held) =
       let inside = in_block word low o.block held in
-      rw here (record {
-        image = _;
-        visited = image_stands text graph g k o e word inside.above (omega (arith, inside.above, inside.below));
-        enter = _;
-        entered = entry_stands k o e word inside.above inside.below;
-      })
+      let image = image_stands text graph g k o e word inside.above (omega (arith, inside.above, inside.below)) in
+      rw here (_, _, image, entry_stands k o e word inside.above inside.below)
   listed node word low (at_compare k o e here held) =
       let inside = in_block word low o.switch.compare.0 held in
       let stands = compare_stands text graph g k o e word inside.above (omega (arith, inside.above, inside.below)) in
-      rw here (record { image = _; visited = stands; enter = _; entered = stands })
+      rw here (_, _, stands, stands)
+
+  module _ (table cases : ℕ) (node : Node) (word : ℕ) (low : word < length text.words) (has : HasImage node word) where
+    pub image_at : slice_get (shape_list text graph table cases) (image_number text graph node word)
+        ≡ Some (image text graph (jumps_at text table) cases node word)
+    image_at = shape_at text graph g table cases (Image node word) _ (listed node word low has).2
+
+    -- where control enters stands some piece
+    pub enter_at : slice_get (shape_list text graph table cases) (enter_number text graph node word)
+        ≡ Some (shape_of text graph table cases (entering text graph node word))
+    enter_at = shape_at text graph g table cases (entering text graph node word) _ (listed node word low has).3
 
   -- ---- within a block the pieces follow each other
 

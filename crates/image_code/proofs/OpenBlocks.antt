@@ -1,9 +1,11 @@
 -- What is known of the graph of a text with its open switches: where their blocks lie, that no two share one, and so
 -- how many words, entries and edges there are.
-use Rattle.image_code.proofs.Common.{◌≡◌, ℕ, zero, suc, ◌+◌, ◌-◌, ◌*◌, ◌<◌, ◌≤◌, true, false, ◌&&◌, ◌==◌, cond, Option, Some, None, List, [], ◌∷◌, ◌++◌, length, map, refl, ap, sym, ◌∙◌, subst, arith, ◌||◌, if◌then◌else◌, slice_get, slice_index, flat_map, sum_by, option_to_list, cond_both, eq-eqb, false≢true, nat_tests, length-append, length-map, sum_by-cons, Words, IsText, decode_of, is_transfer, EdgeKind, within, Blocks, below, blocks_of, end_of, holding_of, last_word, size_of, entered_of, is_jump, get_or-below, length-below, Edge, Node, same_kind, IsEdgeIn, Open, jumps_in, targets_in, Graph, edges_in, graph_of, IsCut, cut, block, copy, ends_within, some_words, Each, each, each-append, each-below, each_at, IsOpenSwitch, opens_are, All, get_or-map, take-append_seam, BlockEnd, Way, number_of, is_copied, edge_of, is_held, each-map, each-then, about, filter, or_parts, count_by-le-length, length-filter, Switch, is_among, Entered, ways_from, is_taken, is_untaken, switch_of, switches_of, targets_within, AreOne, AreOpenIn, IsOpenIn, IsTableIn, edges_of-few, entries_of, flat_few, targets_few, total, total_flat, total_le, ways_out-few, ends_at_next, ends_at_words, each-flat_map, each_in, edges_lie_in, IsOwn, ways_are_own, load_of, or_zero, edges_but_landings, IsGraphOf, opens_in}
+use Rattle.image_code.proofs.Common.{[], ◌≡◌, ℕ, zero, suc, ◌+◌, ◌-◌, ◌*◌, ◌<◌, ◌≤◌, true, false, ◌==◌, Option, Some, None, List, ◌∷◌, ◌++◌, length, map, refl, ap, sym, ◌∙◌, subst, arith, if◌then◌else◌, slice_get, slice_index, flat_map, sum_by, option_to_list, cond_both, eq-eqb, false≢true, nat_tests, length-append, length-map, sum_by-cons, Words, IsText, decode_of, is_transfer, within, Blocks, below, blocks_of, end_of, holding_of, last_word, size_of, entered_of, is_jump, get_or-below, length-below, Edge, Node, same_kind, IsEdgeIn, Open, jumps_in, targets_in, Graph, edges_in, graph_of, IsCut, cut, block, copy, ends_within, some_words, Each, each, each-append, each-below, each_at, IsOpenSwitch, opens_are, All, get_or-map, BlockEnd, Way, number_of, is_copied, edge_of, is_held, each-map, each-then, about, filter, or_parts, count_by-le-length, length-filter, Switch, is_among, Entered, ways_from, switch_of, switches_of, targets_within, AreOne, AreOpenIn, IsOpenIn, IsTableIn, edges_of-few, entries_of, flat_few, targets_few, total, total_flat, total_le, ways_out-few, ends_at_next, ends_at_words, each-flat_map, each_in, edges_lie_in, IsOwn, ways_are_own, load_of, or_zero, edges_but_landings, IsGraphOf, opens_in, cases_lt, inl, inr, zero-add, find, range_with_len, or_first, loads_by, StandsInText, length-take}
+use Rattle.image_code.specs.Labels.{landing_count}
 use Rattle.cfg_blocks.specs.declared.BlockEnd.TheVariants as ends
 use Rattle.cfg_blocks.specs.declared.EdgeKind.TheVariants as kinds
-use Rattle.cfg_blocks.specs.Code.{TargetsWithin, AreFirsts, IsBlockList}
+use Rattle.std.proofs.lemmas.List.{take_at}
+use Rattle.cfg_blocks.specs.Code.{AreFirsts, IsBlockList}
 use Rattle.cfg_blocks.specs.Arrivals.{entered_in}
 use Rattle.cfg_blocks.specs.Values.{instr_at}
 use Rattle.cfg_blocks.proofs.Agreement.{entered_alike}
@@ -13,9 +15,8 @@ use Rattle.jump_slice.proofs.Parts.{switch_of-is, table_in}
 use Rattle.switch_runs.proofs.Into.{leads_in}
 use Rattle.switch_runs.proofs.Opened.{found_in}
 use Rattle.switch_runs.proofs.Whole.{ends_count}
-use Rattle.image_code.proofs.NumberTables.{load_between}
-use Rattle.image_code.proofs.Positions.{any_at, get_first}
-use Rattle.image_code.proofs.OpenSums.{AreDistinct, distinct_sum}
+use Rattle.image_code.proofs.Positions.{any_at, get_taken, get_second, found_within}
+use Rattle.image_code.proofs.OpenSums.{AreDistinct, distinct_sum, sum_flat}
 
 -- ---- one open switch
 
@@ -41,10 +42,23 @@ pub record IsSwitchIn (text : Words) (b : Blocks) (o : Open) : Type 0 where
   pub above : slice_index b.firsts o.block ≤ load_of text o
   pub below : load_of text o ≤ last_word b.firsts b.words o.block
 
--- a bound's way, by its condition
-bounded_is : (cond : ℕ) (kind : EdgeKind) → (((cond == 12) && is_untaken kind) || ((cond == 4) && is_taken kind)) ≡ true
-    → kind ≡ (if cond == 12 then kinds.Untaken else kinds.Taken)
-bounded_is cond kind e = grind (arith, nat_tests)
+-- the load stands in the jump's block
+pub load_between : (text : Words) (o : Open) → o.approach.first ≤ o.approach.jump
+    → (o.approach.first ≤ load_of text o) × (load_of text o ≤ o.approach.jump)
+unfolding load_of
+load_between text o ordered = by _ refl
+  where
+    by : (found : Option ℕ) → find (λ word. loads_by text o word (instr_at text word))
+        (range_with_len o.approach.first (o.approach.jump - o.approach.first)) ≡ found
+        → (o.approach.first ≤ or_first o found) × (or_first o found ≤ o.approach.jump)
+    by None e = (omega arith, ordered)
+    by (Some word) e =
+        let h = found_within _ o.approach.first (o.approach.jump - o.approach.first) word e in (h.0, omega (arith, h.1))
+
+pub load_within : (text : Words) (b : Blocks) (o : Open) → StandsInText text b o
+    → (slice_index b.firsts o.block ≤ load_of text o) × (load_of text o ≤ last_word b.firsts b.words o.block)
+load_within text b o stands =
+    let h = load_between text o stands.ordered in omega (arith, h.0, h.1, stands.first, stands.jump)
 
 module _ (text : Words) (given : List ℕ) (entry : ℕ) (is_text : IsText text) where
   abbrev its : Blocks
@@ -52,19 +66,6 @@ module _ (text : Words) (given : List ℕ) (entry : ℕ) (is_text : IsText text)
 
   parts : IsCut text its
   parts = cut text given is_text.some
-
-  led_first : (o : Open) → IsOpenSwitch text (entered_of text given) entry o
-      → led_word its o.switch.compare.0 ≡ slice_index its.firsts o.block
-  unfolding entered_of
-  led_first o is =
-      let a = about text given entry is_text o is in
-      let leads = leads_in text given o.block o.switch.compare o.way a.block_in is.parts.edge is.cond is.annul
-      is.parts.target is.parts.branch in
-      let way = bounded_is is.cond o.way a.bounded in
-      ap (led_by its.words (last_word its.firsts its.words o.switch.compare.0)) is.parts.branch
-      ∙ cond_both (is.cond == 12) _ _ (λ (to : Option ℕ). or_zero to ≡ slice_index its.firsts o.block)
-      (λ e. ap or_zero (leads.untaken (rw e at way)))
-      (λ e. ap or_zero (leads.taken (rw e at way)))
 
   switch_in : (o : Open) → IsOpenSwitch text (entered_of text given) entry o → IsSwitchIn text its o
   unfolding entered_of
@@ -74,6 +75,15 @@ module _ (text : Words) (given : List ℕ) (entry : ℕ) (is_text : IsText text)
       is.annul is.parts.target o.approach.compare is.parts.edge is.parts.branch is.parts.sets in
       let some = some_words its.words its.firsts parts.firsts o.block a.block_in in
       let load = load_between text o (omega (arith, a.first, a.jump)) in
+      let leads = leads_in text given o.block o.switch.compare o.way a.block_in is.parts.edge is.cond is.annul
+      is.parts.target is.parts.branch in
+      -- a bound's way, by its condition
+      let way : o.way ≡ (if is.cond == 12 then kinds.Untaken else kinds.Taken) =
+      let bounded = a.bounded in grind (arith, nat_tests) in
+      let first : led_word its o.switch.compare.0 ≡ slice_index its.firsts o.block =
+      ap (led_by its.words (last_word its.firsts its.words o.switch.compare.0)) is.parts.branch
+      ∙ cond_both (is.cond == 12) _ _ (λ (to : Option ℕ). or_zero to ≡ slice_index its.firsts o.block)
+      (λ e. ap or_zero (leads.untaken (rw e at way))) (λ e. ap or_zero (leads.taken (rw e at way))) in
       record {
         compare_in = a.from_in;
         block_in = a.block_in;
@@ -81,7 +91,7 @@ module _ (text : Words) (given : List ℕ) (entry : ℕ) (is_text : IsText text)
         jumps = ap is_transfer s.jumps.is;
         branch = ap is_jump is.parts.branch;
         jump = (found_in text (entered_of text given) o.block o.switch entry is.is_switch).1;
-        led = rw (led_first o is) (sym (is_held its.words its.firsts parts.firsts (slice_index its.firsts o.block) o.block
+        led = rw first (sym (is_held its.words its.firsts parts.firsts (slice_index its.firsts o.block) o.block
             (record { within = a.block_in; above = omega arith; below = some })));
         above = omega (arith, load.0, a.first);
         below = omega (arith, load.1, a.jump);
@@ -89,38 +99,20 @@ module _ (text : Words) (given : List ℕ) (entry : ℕ) (is_text : IsText text)
 
   -- ---- the list of blocks, and the tables
 
-  -- the targets of blocks are words
-  ends_within_text : All (TargetsWithin (length text.words)) its.ends
-  unfolding entered_in entered_of
-  ends_within_text =
+  pub is_list : IsBlockList (entered_of text given)
+  unfolding entered_of entered_in
+  is_list =
       let marks = map (is_among given) (below (length text.words)) in
       let alike = entered_alike text given marks is_text.some (λ k l. get_or-map (is_among given) _ k 0 false
       (omega (arith, l, length-below (length text.words))) ∙ ap (is_among given) (get_or-below (length text.words) k 0 l)) in
-      subst (All (TargetsWithin (length text.words))) (ap (λ (list : Entered). list.blocks.ends) alike)
-      (targets_within text _ _ _ _ refl refl)
-
-  pub is_list : IsBlockList (entered_of text given)
-  unfolding entered_of
-  is_list = record {
-    firsts = parts.firsts;
-    ends = ends_count text given;
-    targets = subst (λ (n : ℕ). All (TargetsWithin n) its.ends) (sym parts.words) ends_within_text;
-    intos = length-map (below (length its.firsts)) _ ∙ length-below (length its.firsts);
-    few = omega (arith, parts.words, is_text.few);
-  }
-
-  table_of : (k : ℕ) (switch : Switch) → k < length its.firsts → switch_of text (entered_of text given) entry k
-      ≡ Some switch
-      → IsTableIn text switch
-  unfolding entered_of
-  table_of k switch l e =
-      let f = (found_in text (entered_of text given) k switch entry e).0 in
-      let s = switch_of-is text (entered_of text given) entry k switch e f.from f.way f.cond f.annul f.target f.compare
-      f.edge f.branch f.sets in
-      let some = some_words its.words its.firsts parts.firsts k l in
-      let inside = ends_within its.words its.firsts parts.firsts k l in
-      table_in text switch (omega (arith, f.jump_is, parts.words)) (omega (arith, s.jumps.count))
-      (rw s.jumps.count s.jumps.table)
+      record {
+        firsts = parts.firsts;
+        ends = ends_count text given;
+        targets = rw (parts.words, ← ap (λ (list : Entered). list.blocks.ends) alike)
+            (targets_within text _ _ _ _ refl refl);
+        intos = length-map (below (length its.firsts)) _ ∙ length-below (length its.firsts);
+        few = omega (arith, parts.words, is_text.few);
+      }
 
   tables : Each (IsTableIn text) (switches_of text (entered_of text given) entry)
   unfolding entered_of
@@ -129,10 +121,16 @@ module _ (text : Words) (given : List ℕ) (entry : ℕ) (is_text : IsText text)
       by : (k : ℕ) → k < length its.firsts → (o : Option Switch) → switch_of text (entered_of text given) entry k ≡ o
           → Each (IsTableIn text) (option_to_list o)
       by k l None e = tt
-      by k l (Some switch) e = (table_of k switch l e, tt)
-
-  pub are_switches : Each (IsSwitchIn text its) (opens_in text given entry)
-  are_switches = each-then _ _ _ switch_in (opens_are text given entry is_text)
+      by k l (Some switch) e =
+          let f = (found_in text (entered_of text given) k switch entry e).0 in
+          let s = switch_of-is text (entered_of text given) entry k switch e f.from f.way f.cond f.annul f.target f.compare
+          f.edge f.branch f.sets in
+          let some = some_words its.words its.firsts parts.firsts k l in
+          let inside = ends_within its.words its.firsts parts.firsts k l in (
+            table_in text switch (omega (arith, f.jump_is, parts.words)) (omega (arith, s.jumps.count))
+                (rw s.jumps.count s.jumps.table),
+            tt,
+          )
 
   pub are_open : AreOpenIn its (opens_in text given entry)
   unfolding entered_of
@@ -144,8 +142,11 @@ module _ (text : Words) (given : List ℕ) (entry : ℕ) (is_text : IsText text)
 
 -- the blocks of each, its comparison's first
 abbrev keys : List Open → List ℕ
-keys [] = []
-keys (o ∷ opens) = o.switch.compare.0 ∷ o.block ∷ keys opens
+keys opens = flat_map (λ (o : Open). o.switch.compare.0 ∷ o.block ∷ []) opens
+
+-- the words of both blocks
+abbrev pub words_of : Blocks → Open → ℕ
+words_of b o = size_of b o.switch.compare.0 + size_of b o.block
 
 module _ (text : Words) (b : Blocks) where
   abbrev AreIn : List Open → Type 0
@@ -180,83 +181,41 @@ module _ (text : Words) (b : Blocks) where
         (each-then (IsNoneOf o) _ (keys opens) (λ j h. h.1) others, keys_apart opens are.1 one.1),
       )
 
+  -- each has a word at least
+  few_of : AreFirsts b.words b.firsts → (opens : List Open) → AreIn opens → length opens ≤ sum_by (words_of b) opens
+  few_of f [] are = omega arith
+  few_of f (o ∷ opens) are =
+      let some = some_words b.words b.firsts f o.block are.0.block_in in
+      omega (arith, sum_by-cons (words_of b) o opens, some, few_of f opens are.1)
+
 -- each by its number
 apart_at : (opens : List Open) → AreOne opens → (j k : ℕ) (o p : Open) → j < k → slice_get opens j ≡ Some o
     → slice_get opens k ≡ Some p → o.block ≡ p.block → ⊥
 apart_at [] one j k o p l e d same = absurd (cc)
 apart_at (q ∷ opens) one zero (suc k) o p l e d same =
-    let here : q ≡ o = cc in
-    false≢true (sym one.0 ∙ any_at (λ (x : Open). x.block == q.block) opens k p d
-    (eq-eqb p.block q.block (sym same ∙ ap (λ (x : Open). x.block) (sym here))))
+    let here : q.block ≡ p.block = cc in
+    false≢true (sym one.0 ∙ any_at (λ (x : Open). x.block == q.block) opens k p d (eq-eqb p.block q.block (sym here)))
 apart_at (q ∷ opens) one (suc j) (suc k) o p l e d same = apart_at opens one.1 j k o p (omega (arith, l)) e d same
-apart_at (q ∷ opens) one zero zero o p l e d same = omega arith
-apart_at (q ∷ opens) one (suc j) zero o p l e d same = omega arith
-
--- the words of both blocks
-abbrev pub words_of : Blocks → Open → ℕ
-words_of b o = size_of b o.switch.compare.0 + size_of b o.block
-
-keys_sum : (b : Blocks) (opens : List Open) → sum_by (size_of b) (keys opens) ≡ sum_by (words_of b) opens
-keys_sum b [] = refl
-keys_sum b (o ∷ opens) =
-    omega (
-      arith,
-      sum_by-cons (size_of b) o.switch.compare.0 (o.block ∷ keys opens),
-      sum_by-cons (size_of b) o.block (keys opens),
-      sum_by-cons (words_of b) o opens,
-      keys_sum b opens,
-    )
+apart_at (q ∷ opens) one j zero o p l e d same = omega arith
 
 -- ---- the blocks follow one another
 
-sizes_before : (b : Blocks) → AreFirsts b.words b.firsts → (k : ℕ) → k < length b.firsts
-    → total (size_of b) k ≡ slice_index b.firsts k
-unfolding total
-sizes_before b f zero l = omega (arith, f.begin)
-sizes_before b f (suc k) l =
-    omega (
-      arith,
-      sizes_before b f k (omega (arith, l)),
-      some_words b.words b.firsts f k (omega (arith, l)),
-      ends_at_next b.words b.firsts f k l,
-    )
+module _ (b : Blocks) (f : AreFirsts b.words b.firsts) where
+  sizes_before : (k : ℕ) → k < length b.firsts → total (size_of b) k ≡ slice_index b.firsts k
+  unfolding total
+  sizes_before zero l = omega (arith, f.begin)
+  sizes_before (suc k) l =
+      let some = some_words b.words b.firsts f k (omega (arith, l)) in
+      omega (arith, sizes_before k (omega (arith, l)), some, ends_at_next b.words b.firsts f k l)
 
-pub sizes_all : (b : Blocks) → AreFirsts b.words b.firsts → (n : ℕ) → n ≡ length b.firsts → total (size_of b) n
-    ≡ b.words
-unfolding total
-sizes_all b f zero e = absurd (omega (arith, f.some))
-sizes_all b f (suc k) e =
-    omega (
-      arith,
-      sizes_before b f k (omega (arith, e)),
-      some_words b.words b.firsts f k (omega (arith, e)),
-      ends_at_words b.words b.firsts f k (omega (arith, e)),
-    )
-
--- each has a word at least
-few_of : (text : Words) (b : Blocks) → AreFirsts b.words b.firsts → (opens : List Open) → Each (IsSwitchIn text b) opens
-    → length opens ≤ sum_by (words_of b) opens
-few_of text b f [] are = omega arith
-few_of text b f (o ∷ opens) are =
-    omega (
-      arith,
-      sum_by-cons (words_of b) o opens,
-      some_words b.words b.firsts f o.block are.0.block_in,
-      few_of text b f opens are.1,
-    )
+  pub sizes_all : (n : ℕ) → n ≡ length b.firsts → total (size_of b) n ≡ b.words
+  unfolding total
+  sizes_all zero e = absurd (omega (arith, f.some))
+  sizes_all (suc k) e =
+      let some = some_words b.words b.firsts f k (omega (arith, e)) in
+      omega (arith, sizes_before k (omega (arith, e)), some, ends_at_words b.words b.firsts f k (omega (arith, e)))
 
 -- ---- edges
-
--- an edge that is no landing stands before the landings
-before_landings : (xs : List Edge) (nodes : List Node) (number : ℕ) (edge : Edge)
-    → slice_get (xs ++ map landing_at nodes) number ≡ Some edge → same_kind edge.kind kinds.Land ≡ false
-    → number < length xs
-before_landings [] nodes number edge e other =
-    absurd (false≢true (sym other ∙ each_at (λ (x : Edge). same_kind x.kind kinds.Land ≡ true)
-    (map landing_at nodes) number edge
-    (each-map _ landing_at nodes (each _ nodes (λ n. refl))) e))
-before_landings (x ∷ xs) nodes zero edge e other = omega arith
-before_landings (x ∷ xs) nodes (suc number) edge e other = omega (arith, before_landings xs nodes number edge e other)
 
 module _ (b : Blocks) (opens : List Open) where
   abbrev blocks_edges : List Edge
@@ -271,36 +230,18 @@ module _ (b : Blocks) (opens : List Open) where
   own_are : edges_but_landings (graph_of b opens) ≡ blocks_edges ++ copies_edges
   unfolding edges_in
   own_are =
-      let many : length (blocks_edges ++ copies_edges ++ map landing_at nodes) - length nodes
-      ≡ length (blocks_edges ++ copies_edges) =
-      omega (
-        arith,
-        length-append (blocks_edges ++ copies_edges) (map landing_at nodes),
-        length-map nodes landing_at,
-      ) in
-      rw many (take-append_seam (blocks_edges ++ copies_edges) (map landing_at nodes))
+      take_at (blocks_edges ++ copies_edges) (map landing_at nodes) _ (simp (length-append, length-map) (omega arith))
 
-  own_few : entries_of opens ≤ b.words → length b.firsts ≤ b.words → length (edges_but_landings (graph_of b opens)) ≤ 5 * b.words
+  own_few : entries_of opens ≤ b.words → length b.firsts ≤ b.words
+      → length (edges_but_landings (graph_of b opens)) ≤ 5 * b.words
   own_few entries firsts =
-      let own : length blocks_edges ≤ 2 * length b.firsts + total (λ k. length (targets_in opens k)) (length b.firsts) =
-      rw (total_flat (edges_of b opens) (length b.firsts))
-      (total_le (λ k. length (edges_of b opens k)) (λ k. length (targets_in opens k)) (length b.firsts)
-      (edges_of-few b opens)) in
-      let copied : length copies_edges ≤ 2 * length (filter (is_copied opens) (below (length b.firsts))) =
-      flat_few (copied_edges b opens) (filter (is_copied opens) (below (length b.firsts)))
-      (λ k. ways_out-few b opens (copy k) k) in
-      omega (
-        arith,
-        own,
-        targets_few opens (length b.firsts),
-        entries,
-        copied,
-        length-filter (is_copied opens) (below (length b.firsts)),
-        count_by-le-length (is_copied opens) (below (length b.firsts)),
-        length-below (length b.firsts),
-        length-append blocks_edges copies_edges,
-        ap length own_are,
-      )
+      let blocks = below (length b.firsts) in
+      let copied = flat_few (copied_edges b opens) (filter (is_copied opens) blocks) (λ k. ways_out-few b opens _ k) in
+      let blocked = count_by-le-length (is_copied opens) blocks in
+      let own = total_le _ (λ k. length (targets_in opens k)) (length b.firsts) (edges_of-few b opens) in
+      let targets = targets_few opens (length b.firsts) in
+      let count = length-below (length b.firsts) in
+      rw own_are (simp (length-append, total_flat) (omega (arith, own, length-filter (is_copied opens) blocks)))
 
   abbrev NoLanding : Edge → Type 0
   NoLanding edge = same_kind edge.kind kinds.Land ≡ false
@@ -318,11 +259,20 @@ module _ (b : Blocks) (opens : List Open) where
       (λ _. each-map _ (case_of b k) _ (each _ _ (λ n. refl))) (λ _. ways_no_landings (block k) k))))
       (each-flat_map _ (copied_edges b opens) _ (each _ _ (λ k. ways_no_landings (copy k) k))))
 
+  -- an edge that is no landing stands before the landings
   pub own_before : (number : ℕ) (edge : Edge) → slice_get (edges_in b opens) number ≡ Some edge → NoLanding edge
       → number < length (edges_but_landings (graph_of b opens))
   unfolding edges_in
-  own_before number edge e other =
-      omega (arith, before_landings (blocks_edges ++ copies_edges) nodes number edge e other, ap length own_are)
+  own_before number edge e other = rw own_are (elim (cases_lt number (length (blocks_edges ++ copies_edges))) [
+    | inl l ↦ l
+    | inr m ↦
+        let k = number - length (blocks_edges ++ copies_edges) in
+        let here : length (blocks_edges ++ copies_edges) + k ≡ number = omega (arith, m) in
+        absurd (false≢true (sym other
+        ∙ each_at (λ (x : Edge). same_kind x.kind kinds.Land ≡ true) (map landing_at nodes) k edge
+        (each-map _ landing_at nodes (each _ nodes (λ n. refl)))
+        (sym (get_second (blocks_edges ++ copies_edges) (map landing_at nodes) k) ∙ rw here e)))
+  ])
 
 -- ---- the graph
 
@@ -336,9 +286,9 @@ pub record IsTextGraph (text : Words) (graph : Graph) : Type 0 where
   pub entries : sum_by (λ (o : Open). length o.targets) graph.opens ≤ length text.words
   pub targets : Each (λ (o : Open). Each (λ word. word < length text.words) o.targets) graph.opens
   pub own_few : length (edges_but_landings graph) ≤ 5 * length text.words
-  pub no_landings : Each (λ edge. same_kind edge.kind kinds.Land ≡ false) (edges_but_landings graph)
-  pub own : (number : ℕ) (edge : Edge) → slice_get (edges_but_landings graph) number ≡ Some edge
-      → slice_get graph.edges number ≡ Some edge
+  -- the edges but for the landings stand before these
+  pub no_landings : (number : ℕ) (edge : Edge) → number < length (edges_but_landings graph)
+      → slice_get graph.edges number ≡ Some edge → same_kind edge.kind kinds.Land ≡ false
   pub before : (number : ℕ) (edge : Edge) → slice_get graph.edges number ≡ Some edge
       → same_kind edge.kind kinds.Land ≡ false → number < length (edges_but_landings graph)
   pub edges : Each (IsEdgeIn graph.blocks graph.opens) graph.edges
@@ -354,19 +304,14 @@ text_graph text graph is_text h =
     let b = blocks_of text h.given in
     let opens = opens_in text h.given h.entry in
     let c = cut text h.given is_text.some in
-    let switches = are_switches text h.given h.entry is_text in
+    let switches : Each (IsSwitchIn text b) opens =
+    each-then _ _ _ (switch_in text h.given h.entry is_text) (opens_are text h.given h.entry is_text) in
     let are = are_open text h.given h.entry is_text in
-    let words = c.words in
+    let keyed : sum_by (size_of b) (keys opens) ≡ sum_by (words_of b) opens = simp (sum_flat, zero-add) in
+    let distinct = distinct_sum (size_of b) (length b.firsts) (keys opens) (keys_apart text b opens switches are.one)
+    (keys_low text b opens switches) in
     let room : sum_by (words_of b) opens ≤ b.words =
-    omega (
-      arith,
-      keys_sum b opens,
-      distinct_sum (size_of b) (length b.firsts) (keys opens) (keys_apart text b opens switches are.one)
-          (keys_low text b opens switches),
-      sizes_all b c.firsts (length b.firsts) refl,
-    ) in
-    let entries : sum_by (λ (o : Open). length o.targets) (opens_in text h.given h.entry) ≤
-    (blocks_of text h.given).words = are.entries in
+    omega (arith, keyed, distinct, sizes_all b c.firsts (length b.firsts) refl) in
     let own = own_few b opens are.entries c.firsts.few in
     subst (IsTextGraph text) (sym h.is) (record {
       cut = c;
@@ -374,13 +319,15 @@ text_graph text graph is_text h =
       apart = apart_at opens are.one;
       room = omega arith;
       few = omega (arith, few_of text b c.firsts opens switches);
-      entries = omega arith;
+      entries = omega (arith, are.entries);
       targets = each_from (IsOpenIn b) _ opens
           (λ o is. each_from (λ word. word < b.words) _ o.targets (λ word l. omega (arith, l)) is.targets) are.each;
       own_few = omega arith;
-      no_landings = no_landings b opens;
-      own = λ number edge e.
-          get_first (blocks_edges b opens ++ copies_edges b opens) _ number edge (rw (own_are b opens) at e);
+      no_landings = λ number edge l e.
+          let count = length (edges_in b opens) - landing_count (graph_of b opens) in
+          let low : number < count = omega (arith, l, length-take count (edges_in b opens)) in
+          each_at _ (edges_but_landings (graph_of b opens)) number edge (no_landings b opens)
+          (get_taken count number (edges_in b opens) low ∙ e);
       before = own_before b opens;
       edges = edges_lie_in b opens c.firsts.some;
     })

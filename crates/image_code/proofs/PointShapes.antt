@@ -1,13 +1,11 @@
 -- The kinds of points, each with the piece that stands there, and where control goes on from it.
-use Rattle.image_code.proofs.Common.{◌≡◌, Some, ℕ, suc, Option, ◌%◌, ◌^◌, ◌<◌, List, ◌⊎◌, [], ◌∷◌, None, slice_get, slice_index, ◌≢◌, ◌+◌, length, false, word_at, PieceNo, Addr, decode_of, Node, State, is_transfer, Point, point_of, node_after, node_at, visit_of, ◌-◌, true, Bool, if◌then◌else◌, ℤ, Taken, NoSlot, same_kind, instr_at, way_of, holds_of, Op2, op2_in_range, op2_fits, words_of, IsApart, ◌≤◌, Block, table_word, choice_at, found_in, X, NoteRange, range_at, save_load_address, Exit, Head, bare, head_items, marked, find_words, HasNoCases, IsBeside, nop_word, operations_on, is_out, IsOffPages, AreCaseTables}
+use Rattle.image_code.proofs.Common.{◌≡◌, Some, ℕ, suc, Option, ◌%◌, ◌^◌, ◌<◌, List, ◌⊎◌, [], ◌∷◌, None, slice_get, slice_index, ◌≢◌, ◌+◌, length, false, word_at, PieceNo, Addr, decode_of, Node, State, is_transfer, Point, point_of, node_after, node_at, visit_of, ◌-◌, true, if◌then◌else◌, ℤ, Taken, NoSlot, same_kind, instr_at, way_of, holds_of, Op2, op2_in_range, op2_fits, words_of, IsApart, ◌≤◌, table_word, choice_at, found_in, X, NoteRange, range_at, save_load_address, Exit, Head, bare, head_items, marked, find_words, HasNoCases, IsBeside, nop_word, operations_on, is_out, IsOffPages, AreCaseTables, moved}
 use Rattle.v8_decode.specs.declared.Instr.TheVariants as i
 use Rattle.cfg_blocks.specs.declared.EdgeKind.TheVariants as kinds
 use Rattle.image_code.specs.declared.shape.Exit.TheVariants as exits
 use Rattle.image_code.specs.declared.shape.Head.TheVariants as heads
-use Rattle.image_code.specs.Simulates.{EditSetup, number_in, does_at, gone_at, graph_in, word_of, CaseTable, IsAtWord, Chooses, MatchesIn}
+use Rattle.image_code.specs.Simulates.{EditSetup, number_in, at_point, does_at, gone_at, graph_in, word_of, CaseTable, IsAtWord, Chooses, MatchesIn}
 use Rattle.image_code.proofs.Points.{Site, entered_at, visited_at, AtVisitIn}
-
--- ---- where control goes on
 
 abbrev pub visits_it : EditSetup → Node → Point → State → Type 0
 visits_it g node x t = (visit_of g.notes t ≡ Some x.pc) × (node_at g.notes t.pc ≡ Some (number_in g node))
@@ -46,8 +44,6 @@ abbrev pub LeadsNext : Site → PieceNo → Node → Point → State → Type 0
 LeadsNext site piece node x t =
     LeadsTo site piece (gone_at site.g node x (does_at site.g x t)) (word_ahead site.g x t) (next_entry site node x t)
 
--- ---- a word that is no transfer
-
 -- A point's piece begins with the Mark of its instruction. A head stands in that, by the address and the word that the
 -- original has there; behind it come the snippets on some edges, and then an exit.
 pub record IsMarked (site : Site) (node : Node) (x : Point) (head : Addr → ℕ → Head) (edges : List ℕ) (exit : Exit)
@@ -78,42 +74,34 @@ pub record IsPlain (site : Site) (node : Node) (x : Point) (t : State) : Type 0 
       × (Reaches site piece exit (word_ahead site.g x t) (next_entry site node x t)
       × (word_ahead site.g x t ≢ None → edges ≡ [] → exit ≡ exits.Behind))
 
--- ---- a conditional branch
-
 -- the machine doesn't come to a jump's slot
 abbrev pub IsNoJumpsSlot : EditSetup → State → Type 0
 IsNoJumpsSlot g v =
     v.slot ≡ Taken → same_kind (way_of (instr_at g.text (v.pc - 4)) v.slot) kinds.Out ≡ true → ⊥
 
+-- a branch outside a slot goes on somewhere, with all else as it was
+pub record IsBranching (site : Site) (x : Point) (t : State) (word : ℕ) : Type 0 where
+  pub transfer : is_transfer (decode_of word) ≡ true
+  pub moves : let u = does_at site.g x t in u ≡ moved u.pc u.npc u.slot (at_point x t)
+  pub never : IsNoJumpsSlot site.g (does_at site.g x t)
+
 pub record IsConditionalBranch (site : Site) (node : Node) (x : Point) (t : State) : Type 0 where
-  pub none : x.slot ≡ NoSlot
   pub cond : ℕ
   pub small : cond < 16
-  pub annul : Bool
-  pub disp : ℤ
   pub taken : PieceNo
   pub untaken : PieceNo
   pub mark : IsMarked site node x (λ _ _. heads.Branch cond taken) [] (exits.Piece untaken)
   pub open mark use {piece, here, address, original, word, is_word, shape}
-  pub says : decode_of word ≡ i.Branch cond annul disp
+  pub goes : IsBranching site x t word
   pub leads : LeadsNext site (if holds_of cond t.codes then taken else untaken) node x t
-  pub never : IsNoJumpsSlot site.g (does_at site.g x t)
 
--- ---- a branch that goes one way
-
+-- a branch that goes one way
 pub record IsUnconditionalBranch (site : Site) (node : Node) (x : Point) (t : State) : Type 0 where
-  pub none : x.slot ≡ NoSlot
-  pub cond : ℕ
-  pub annul : Bool
-  pub disp : ℤ
   pub way : PieceNo
   pub mark : IsMarked site node x (λ _ _. heads.Word nop_word) [] (exits.Piece way)
   pub open mark use {piece, here, address, original, word, is_word, shape}
-  pub says : decode_of word ≡ i.Branch cond annul disp
+  pub goes : IsBranching site x t word
   pub leads : LeadsNext site way node x t
-  pub never : IsNoJumpsSlot site.g (does_at site.g x t)
-
--- ---- a CALL
 
 pub record IsCall (site : Site) (node : Node) (x : Point) (t : State) : Type 0 where
   pub none : x.slot ≡ NoSlot
@@ -126,15 +114,14 @@ pub record IsCall (site : Site) (node : Node) (x : Point) (t : State) : Type 0 w
   pub leads : LeadsNext site way node x t
   pub never : IsNoJumpsSlot site.g (does_at site.g x t)
 
--- ---- a JMPL, by a register that it doesn't name
-
-pub record IsJump (site : Site) (node : Node) (x : Point) (t : State) : Type 0 where
+-- outside a slot
+pub record IsOutside (x : Point) : Type 0 where
   pub none : x.slot ≡ NoSlot
   pub next : x.npc ≡ (x.pc + 4) % 2 ^ 32
   pub low : x.pc < 2 ^ 32
-  pub rd : ℕ
-  pub rs1 : ℕ
-  pub op2 : Op2
+
+-- a JMPL, by two registers that it doesn't name
+pub record IsJmpl (rd rs1 : ℕ) (op2 : Op2) : Type 0 where
   pub scratch : ℕ
   pub apart : IsApart scratch rd rs1 op2
   pub second : ℕ
@@ -142,6 +129,15 @@ pub record IsJump (site : Site) (node : Node) (x : Point) (t : State) : Type 0 w
   pub differ : scratch ≢ second
   pub fits : op2_fits op2 ≡ true
   pub in_range : op2_in_range op2 ≡ true
+
+pub record IsJump (site : Site) (node : Node) (x : Point) (t : State) : Type 0 where
+  pub outside : IsOutside x
+  pub open outside use {none, next, low}
+  pub rd : ℕ
+  pub rs1 : ℕ
+  pub op2 : Op2
+  pub jmpl : IsJmpl rd rs1 op2
+  pub open jmpl use {scratch, apart, second, other, differ, fits, in_range}
   pub way : PieceNo
   pub mark : IsMarked site node x
       (λ _ _. heads.LookUp (words_of (find_words scratch second rs1 op2 site.f.halves.base)) rd) [] (exits.Piece way)
@@ -149,16 +145,11 @@ pub record IsJump (site : Site) (node : Node) (x : Point) (t : State) : Type 0 w
   pub says : decode_of word ≡ i.Jmpl rd rs1 op2
   pub leads : (does_at site.g x t).ending ≡ None → LeadsNext site way node x t
 
--- ---- the jump of an open switch
-
+-- the jump of an open switch
 pub record IsSwitchJump (site : Site) (node : Node) (x : Point) (t : State) : Type 0 where
-  pub none : x.slot ≡ NoSlot
-  pub next : x.npc ≡ (x.pc + 4) % 2 ^ 32
-  pub number : ℕ
-  pub open_switch : CaseTable
-  pub among : slice_get site.g.opens number ≡ Some open_switch
-  pub itself : node ≡ Block (record { 0 = open_switch.block })
-  pub low : x.pc < 2 ^ 32
+  pub outside : IsOutside x
+  pub open outside use {none, next, low}
+  pub cased : HasNoCases site.g node → ⊥
   pub rd : ℕ
   pub register : rd < 32
   pub rs1 : ℕ
@@ -180,28 +171,23 @@ pub record IsSwitchJump (site : Site) (node : Node) (x : Point) (t : State) : Ty
   pub nothing : gone_at site.g node x (does_at site.g x t) ≡ []
   pub leads : slice_index site.p.at way ≡ next_entry site node x t
 
--- ---- a transfer in a delay slot
-
+-- a transfer in a delay slot
 pub record IsCouple (site : Site) (node : Node) (x : Point) : Type 0 where
   pub slot : x.slot ≢ NoSlot
   pub mark : IsMarked site node x (λ _ _. heads.Couple) [] exits.Behind
   pub open mark use {piece, here, address, original, word, is_word, shape}
   pub transfer : is_transfer (decode_of word) ≡ true
 
--- ---- behind the delay slot of a JMPL
-
--- What the table has for a target: the piece of a landing, which leads to the next visit through the snippets of some
--- edges; where these have no operation it may be the piece of that visit itself. Outside the text it is the foreign
--- piece.
+-- What the table has for the target of a JMPL: the piece of a landing, which leads to the next visit through the
+-- snippets of some edges; where these have no operation it may be the piece of that visit itself. Outside the text it is
+-- the foreign piece.
 abbrev pub Lands : Site → List ℕ → ℕ → ℕ → Type 0
 Lands site edges target visit =
-    ((piece : PieceNo) × (piece.0 < length site.l.list)
-    × (found_in site.f.halves target ≡ slice_index site.p.at piece.0)
+    (piece : PieceNo) × (piece.0 < length site.l.list) × (found_in site.f.halves target ≡ slice_index site.p.at piece.0)
     × (LeadsTo site piece edges (word_at site.g.text target) visit
-    ⊎ ((operations_on site.g.snips edges ≡ 0) × (slice_index site.p.at piece.0 ≡ visit))))
-    ⊎ ((edges ≡ []) × ((piece : PieceNo) × (piece.0 < length site.l.list)
-    × (found_in site.f.halves target ≡ slice_index site.p.at piece.0)
-    × (slice_get site.shapes piece.0 ≡ Some (bare [] exits.Foreign)) × (word_at site.g.text target ≡ None)))
+    ⊎ (((operations_on site.g.snips edges ≡ 0) × (slice_index site.p.at piece.0 ≡ visit))
+    ⊎ ((edges ≡ []) × (slice_get site.shapes piece.0 ≡ Some (bare [] exits.Foreign))
+    × (word_at site.g.text target ≡ None))))
 
 pub record IsJumpsSlot (site : Site) (node : Node) (x : Point) (t : State) : Type 0 where
   pub slot : x.slot ≡ Taken
@@ -216,8 +202,6 @@ pub record IsJumpsSlot (site : Site) (node : Node) (x : Point) (t : State) : Typ
   pub open mark use {straight, mark.{piece, address, word, is_word, shape}}
   -- where the walk goes on, there the table leads
   pub lands : (does_at site.g x t).ending ≡ None → Lands site landing x.npc (next_entry site node x t)
-
--- ---- outside the text
 
 -- outside a slot, at an address of no word: the written file is there too
 pub record IsForeign (g : EditSetup) (node : Node) (x : Point) : Type 0 where
@@ -237,9 +221,7 @@ pub record IsOff (site : Site) (node : Node) (x : Point) : Type 0 where
   pub number : range.node ≡ number_in site.g node
   pub beside : IsBeside site.base site.p.code site.f.table.base
 
--- ---- before the load of an open switch
-
--- a piece that keeps the load's address, and behind which the visit stands
+-- before the load of an open switch a piece that keeps the load's address, and behind which the visit stands
 pub record IsSaving (site : Site) (node : Node) (x : Point) (o : CaseTable) : Type 0 where
   pub piece : ℕ
   pub here : entered_at site node x ≡ slice_index site.p.at piece
@@ -252,8 +234,6 @@ pub data IsEntered (site : Site) (node : Node) (x : Point) : Type 0 where
       → IsEntered site node x
   saving : (k : ℕ) (o : CaseTable) → slice_get site.g.opens k ≡ Some o → IsAtWord site.g o node x o.load
       → IsSaving site node x o → IsEntered site node x
-
--- ---- each kind
 
 -- the piece of a point begins with its Mark, in which some word stands
 pub record IsHead (site : Site) (node : Node) (x : Point) : Type 0 where

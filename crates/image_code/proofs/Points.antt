@@ -17,16 +17,13 @@ pub record Site : Type 0 where
   pub f : EditorData
   pub placed : IsPlaced g l base p place f
 
-abbrev pub placed_by : (Node → ℕ → ℕ) → Site → Node → Point → ℕ
-placed_by image site node x = place_by image site.g site.l site.p site.f node x (word_at site.g.text x.pc) x.slot
-
 -- the address at which the written file visits the point
 abbrev pub visited_at : Site → Node → Point → ℕ
-visited_at site = placed_by site.l.image site
+visited_at site node x = place_by site.l.image site.g site.l site.p site.f node x (word_at site.g.text x.pc) x.slot
 
 -- the address at which control enters the piece of the point: before the load of an open switch its address is kept
 abbrev pub entered_at : Site → Node → Point → ℕ
-entered_at site = placed_by site.l.enter site
+entered_at site node x = place_by site.l.enter site.g site.l site.p site.f node x (word_at site.g.text x.pc) x.slot
 
 abbrev pub AtVisitIn : Site → Node → Point → State → Type 0
 AtVisitIn site node x t = AtVisit site.g site.l site.base site.p site.f node x t

@@ -1,5 +1,9 @@
 -- Items of lists by their places: behind other lists, in the lists of items, and the first that passes a test.
-use Rattle.image_code.proofs.Common.{get_or-below, length-below, ◌-◌, each-append, below, Each, ◌≡◌, ℕ, zero, suc, ◌+◌, ◌<◌, ◌≤◌, Bool, true, false, cond, Some, None, List, [], ◌∷◌, ◌++◌, length, get_or, map, take, length-append, refl, ap, sym, ◌∙◌, arith, inl, inr, slice_get, find, flat_map, list_any, position, position_or_len, range_with_len, sum_by, nat_tests, cases_lt, false≢true, lt-ltb, length-map-range_with_len, sum_by-cons, get_or_from_slice_get, slice_get-get_or, slice_get_within, Contains, find_at, get_or-map-range_with_len, get_or-range_with_len, length-range_with_len, length-map, slice_get-map, option_map, enumerate_from, get_or-enumerate_from, length-enumerate_from, Any-from_list_any, list_any_at, same_Some, fails_before_first, passes_at_first, position_or_len_is, Label, same_label}
+use Rattle.image_code.proofs.Common.{[], get_or-below, length-below, below, ◌≡◌, ℕ, zero, suc, ◌+◌, ◌<◌, ◌≤◌, Bool, true, false, cond, Some, None, List, ◌∷◌, ◌++◌, length, get_or, map, take, length-append, refl, ap, sym, ◌∙◌, arith, slice_get, find, flat_map, list_any, position, position_or_len, range_with_len, sum_by, nat_tests, lt-ltb, length-map-range_with_len, sum_by-cons, get_or_from_slice_get, slice_get-get_or, slice_get_within, Contains, find_at, get_or-map-range_with_len, get_or-range_with_len, length-range_with_len, slice_get-map, enumerate_from, get_or-enumerate_from, length-enumerate_from, Any-from_list_any, list_any_at, same_Some, fails_before_first, passes_at_first, position_or_len_is, position-Some, Label, same_label, ◌==◌, eq-eqb, ne_eqb, list_any-append, not, zero-add}
+use Rattle.std.proofs.lemmas.List.{map-id}
+use Rattle.std.proofs.lemmas.List.Folds.{prefix_len-append}
+use Rattle.std.proofs.lemmas.List.FromFn.{fill_by_all}
+use Rattle.cfg_blocks.proofs.Below.{list_any-map}
 pub use Rattle.layout.proofs.Standing.{get_first, get_rest as get_second}
 
 -- ---- lists behind others
@@ -24,6 +28,10 @@ looked_up {A = A} xs ys k x same low is = rw (← same) (slice_get-get_or xs k x
 
 -- ---- ranges
 
+pub below_range : (n : ℕ) → below n ≡ range_with_len 0 n
+below_range n =
+    fill_by_all (λ (k : ℕ). k) (below n) n 0 (length-below n) (λ k l. get_or-below n k 0 l) ∙ map-id (range_with_len 0 n)
+
 pub range_get : {A : Type 0} (f : ℕ → A) (from count n : ℕ) → n < count
     → slice_get (map f (range_with_len from count)) n ≡ Some (f (from + n))
 range_get {A = A} f from count n l =
@@ -35,14 +43,8 @@ pub numbered_get : {A B : Type 0} (f : ℕ → A → B) (xs : List A) (k : ℕ) 
     → slice_get (map (λ (p : ℕ × A). f p.0 p.1) (enumerate_from 0 xs)) k ≡ Some (f k x)
 numbered_get f xs k x e =
     let low = slice_get_within xs k x e in
-    let here : 0 + k ≡ k = omega arith in
-    let many = length-enumerate_from 0 xs in
-    let at = slice_get-get_or (enumerate_from 0 xs) k (0, x) (omega (arith, low, many)) in
-    rw (slice_get-map, at, get_or-enumerate_from 0 xs k (0, x) low, get_or_from_slice_get xs k x x e, here)
-
-pub numbered_count : {A B : Type 0} (f : ℕ → A → B) (xs : List A)
-    → length (map (λ (p : ℕ × A). f p.0 p.1) (enumerate_from 0 xs)) ≡ length xs
-numbered_count f xs = length-map (enumerate_from 0 xs) _ ∙ length-enumerate_from 0 xs
+    let at = slice_get-get_or (enumerate_from 0 xs) k (0, x) (omega (arith, low, length-enumerate_from 0 xs)) in
+    rw (slice_get-map, at, get_or-enumerate_from 0 xs k (0, x) low, get_or_from_slice_get xs k x x e, zero-add k) refl
 
 -- ---- the lists of items, each of which is so long
 
@@ -53,7 +55,7 @@ module _ {A B : Type 0} (f : A → List B) (size : A → ℕ) where
   pub flat_count : (xs : List A) → Sized xs → length (flat_map f xs) ≡ sum_by size xs
   flat_count [] sized = refl
   flat_count (y ∷ xs) sized =
-      omega (arith, length-append (f y) (flat_map f xs), sized 0 y refl, flat_count xs (λ k. sized (suc k)), sum_by-cons size y xs)
+      simp length-append (omega (arith, sized 0 y refl, flat_count xs (λ k. sized (suc k)), sum_by-cons size y xs))
 
 -- ---- the first that passes a test
 
@@ -70,12 +72,7 @@ pub placed : {A : Type 0} (p : A → Bool) (xs : List A) → list_any p xs ≡ t
 placed p xs any =
     let some = Any-from_list_any p xs any in
     let n = position_or_len p xs in
-    let within : n < length xs = elim (cases_lt n (length xs)) [
-      | inl l ↦ l
-      | inr m ↦
-          let fails = fails_before_first p xs some.0 some.1 (omega (arith, m, some.2)) in
-          absurd (false≢true (sym fails ∙ ap p some.3 ∙ some.4))
-    ] in
+    let within : n < length xs = grind (arith, fails_before_first p xs some.0 some.1, some.2, ap p some.3 ∙ some.4) in
     let is = slice_get-get_or xs n some.1 within in
     record {
       number = n;
@@ -86,6 +83,12 @@ placed p xs any =
       passes = passes_at_first p xs some.1 within;
       fails = λ k y l e. sym (ap p (get_or_from_slice_get xs k y y e)) ∙ fails_before_first p xs k y l;
     }
+
+pub position_at : {A : Type 0} (p : A → Bool) (xs : List A) (k : ℕ) → position p xs ≡ Some k
+    → (x : A) × (slice_get xs k ≡ Some x) × (p x ≡ true)
+position_at p [] k e = absurd (cc)
+position_at p (x ∷ xs) k e =
+    let found = position-Some p (x ∷ xs) k x e in (get_or (x ∷ xs) k x, slice_get-get_or (x ∷ xs) k x found.0, found.1)
 
 pub any_at : {A : Type 0} (p : A → Bool) (xs : List A) (k : ℕ) (x : A) → slice_get xs k ≡ Some x → p x ≡ true
     → list_any p xs ≡ true
@@ -99,29 +102,40 @@ pub record StandsIn (xs : List Label) (x : Label) (n : ℕ) : Type 0 where
   pub first : position_or_len (same_label x) xs ≡ n
 
 abbrev pub IsNew : Label → List Label → Type 0
-IsNew x = Each (λ y. same_label x y ≡ false)
+IsNew x xs = list_any (same_label x) xs ≡ false
 
-position_within : {A : Type 0} (p : A → Bool) (xs ys : List A) → position_or_len p xs < length xs
-    → position_or_len p (xs ++ ys) ≡ position_or_len p xs
-position_within p [] ys l = absurd (omega arith)
-position_within p (x ∷ xs) ys l = grind (arith, nat_tests, position_within p xs ys)
+pub any_flat : {A B : Type 0} (p : B → Bool) (f : A → List B) (xs : List A)
+    → list_any p (flat_map f xs) ≡ list_any (λ x. list_any p (f x)) xs
+any_flat p f [] = refl
+any_flat p f (x ∷ xs) = rw (list_any-append p (f x) (flat_map f xs), any_flat p f xs) refl
 
-position_past : {A : Type 0} (p : A → Bool) (xs ys : List A) → Each (λ y. p y ≡ false) xs
+pub none_any : {A : Type 0} (xs : List A) → list_any (λ x. false) xs ≡ false
+none_any [] = refl
+none_any (x ∷ xs) = none_any xs
+
+pub past_range : (word from n : ℕ) → from + n ≤ word → list_any (λ v. word == v) (range_with_len from n) ≡ false
+past_range word from zero low = refl
+past_range word from (suc n) low = grind (arith, nat_tests, past_range word (from + 1) n)
+
+-- what shows that a label is new
+pub ruleset news = (list_any-append, list_any-map, any_flat, none_any)
+
+position_past : {A : Type 0} (p : A → Bool) (xs ys : List A) → list_any p xs ≡ false
     → position_or_len p (xs ++ ys) ≡ length xs + position_or_len p ys
 position_past p [] ys none = omega arith
-position_past p (x ∷ xs) ys none = grind (arith, nat_tests, none.0, position_past p xs ys none.1)
+position_past p (x ∷ xs) ys none = grind (arith, nat_tests, position_past p xs ys)
 
-pub before : (xs ys : List Label) (x : Label) (n : ℕ) → StandsIn xs x n → StandsIn (xs ++ ys) x n
-before xs ys x n s =
+pub before : (xs ys : List Label) {x : Label} {n : ℕ} → StandsIn xs x n → StandsIn (xs ++ ys) x n
+before xs ys {x = x} {n = n} s =
     let low = slice_get_within xs n x s.is in
     record {
       is = get_first xs ys n x s.is;
-      first = position_within (same_label x) xs ys (omega (arith, s.first, low)) ∙ s.first;
+      first = grind (arith, nat_tests, prefix_len-append (λ y. not (same_label x y)) xs ys, s.first, low);
     }
 
-pub behind : (xs ys : List Label) (x : Label) (n m : ℕ) → IsNew x xs → StandsIn ys x m → n ≡ length xs + m
+pub behind : (xs ys : List Label) {x : Label} {n m : ℕ} → IsNew x xs → StandsIn ys x m → n ≡ length xs + m
     → StandsIn (xs ++ ys) x n
-behind xs ys x n m new s e = record {
+behind xs ys {x = x} {n = n} {m = m} new s e = record {
   is = get_past xs ys n m x e s.is;
   first = omega (arith, position_past (same_label x) xs ys new, s.first, e);
 }
@@ -137,46 +151,29 @@ stands_at xs x n is same apart =
           (λ l. ap (same_label x) (get_or_from_slice_get xs n x x is) ∙ same);
     }
 
--- each of a list with its number
-module _ (f : ℕ → Label) (word : ℕ) (same : same_label (f word) (f word) ≡ true)
-    (apart : (v : ℕ) → (word ≡ v → ⊥) → same_label (f word) (f v) ≡ false) where
-  stands_among : (xs : List Label) (from n : ℕ) → from + n ≡ word
-      → ((k : ℕ) → k < n + 1 → slice_get xs k ≡ Some (f (from + k))) → StandsIn xs (f word) n
-  stands_among xs from n here at =
-      stands_at xs (f word) n (at n (omega arith) ∙ ap (λ (v : ℕ). Some (f v)) here) same (λ k y l e.
-      rw (same_Some y (f (from + k)) (sym e ∙ at k (omega (arith, l))))
-      (apart (from + k) (λ q. omega (arith, q, l, here))))
-
-  pub stands_in_range : (from count : ℕ) → from ≤ word → word < from + count
-      → StandsIn (map f (range_with_len from count)) (f word) (word - from)
-  stands_in_range from count above low =
-      stands_among (map f (range_with_len from count)) from (word - from) (omega (arith, above))
-      (λ k l. range_get f from count k (omega (arith, l, above, low)))
+-- each of a list with its number, by which it is told
+module _ (f : ℕ → Label) (word : ℕ) (tells : (v : ℕ) → same_label (f word) (f v) ≡ (word == v)) where
+  pub stands_in_range : (from count n : ℕ) → from + n ≡ word → n < count
+      → StandsIn (map f (range_with_len from count)) (f word) n
+  stands_in_range from count n here low =
+      stands_at (map f (range_with_len from count)) (f word) n (rw here at (range_get f from count n low))
+      (tells word ∙ eq-eqb word word refl) (λ k y l e.
+      let is = same_Some y _ (sym e ∙ range_get f from count k (omega (arith, l, low))) in
+      rw (is, tells (from + k)) (ne_eqb word (from + k) (λ q. omega (arith, q, l, here))))
 
   pub stands_below : (count : ℕ) → word < count → StandsIn (map f (below count)) (f word) word
-  stands_below count low =
-      stands_among (map f (below count)) 0 word (omega arith) (λ k l.
-      slice_get-map f (below count) k ∙ ap (option_map f)
-      (slice_get-get_or (below count) k 0 (omega (arith, l, low, length-below count))
-      ∙ ap (λ (v : ℕ). Some v) (get_or-below count k 0 (omega (arith, l, low)) ∙ omega arith)))
+  stands_below count low = rw (below_range count) (stands_in_range 0 count word (omega arith) low)
 
 -- in the lists of items
-pub new_in_all : {A : Type 0} (x : Label) (f : A → List Label) (xs : List A) → ((a : A) → IsNew x (f a))
-    → IsNew x (flat_map f xs)
-new_in_all x f [] new = tt
-new_in_all x f (a ∷ xs) new = each-append _ (f a) (flat_map f xs) (new a) (new_in_all x f xs new)
-
 pub stands_in_all : {A : Type 0} (f : A → List Label) (size : A → ℕ) (xs : List A) → Sized f size xs → (k : ℕ) (a : A)
     → slice_get xs k ≡ Some a → (x : Label) (m : ℕ) → StandsIn (f a) x m
     → ((j : ℕ) (c : A) → j < k → slice_get xs j ≡ Some c → IsNew x (f c))
     → StandsIn (flat_map f xs) x (sum_by size (take k xs) + m)
 stands_in_all f size [] sized k a e x m s new = absurd (cc)
 stands_in_all f size (c ∷ xs) sized zero a e x m s new =
-    let same : c ≡ a = cc in
-    let here : 0 + m ≡ m = omega arith in
-    rw (here, same) (before (f a) (flat_map f xs) x m s)
+    let same : c ≡ a = cc in rw (zero-add m, same) (before _ _ s)
 stands_in_all f size (c ∷ xs) sized (suc k) a e x m s new =
-    behind (f c) (flat_map f xs) x _ (sum_by size (take k xs) + m) (new 0 c (omega arith) refl)
+    behind _ _ (new 0 c (omega arith) refl)
     (stands_in_all f size xs (λ j. sized (suc j)) k a e x m s (λ j d l. new (suc j) d (omega (arith, l))))
     (omega (arith, sized 0 c refl, sum_by-cons size c (take k xs)))
 

@@ -1,40 +1,36 @@
 -- Ways through words in no place: the snippets of some edges, Jumps and long jumps.
-use Rattle.image_code.proofs.Common.{Instr, IsPageWord, StandIn, Fit, words_mean, word_items, word_of, other_word_stored, ◌≡◌, ℕ, zero, suc, ◌+◌, ◌-◌, ◌*◌, ◌^◌, ◌<◌, ◌≤◌, ◌⊎◌, inl, inr, false, Option, Some, None, List, [], ◌∷◌, ◌++◌, length, map, append-nil, add-one, add-zero, zero-add, refl, ap, sym, ◌∙◌, subst, arith, add_assoc, ◌≢◌, slice_get, slice_index, flat_map, option_map, cases_lt, length-append, length-map, map-append, append_assoc, slice_get_within, slice_get-map, Addr, PieceNo, Memory, code_of, fetch_from, State, register_of, run, IsValid, run-valid, count_stores, hopped, Leads, IsFirstWord, IsAmongWords, page_word, Stores, store_word, memory_word, count_add, none_then, leads_weaker, stores_none, Op, words_at, words_of, Item, item_at, open_in, range_in, range_of, nil_from_length, IsSilent, long_jump, HasWords, stores_then, leads_then, open_from, IsWordAt, Exit, Head, OfWord, Shape, bare, exit_items, head_items, items_of, mark_items, marked, leads_none, silent_none, silent_then, Hops, IsAboutToRun, long_jump_fits, HasCode, stays, jumps_hop, IsOnWay, in_first_word, is_spill, spills_on, cells_in, operations_on, snippet_on, updates, Pieces}
+use Rattle.image_code.proofs.Common.{StateItem, IsKept, Instr, IsPageWord, StandIn, Fit, words_mean, word_items, word_of, other_word_stored, ◌≡◌, ℕ, zero, suc, ◌+◌, ◌-◌, ◌*◌, ◌^◌, ◌<◌, ◌≤◌, ◌⊎◌, inl, inr, false, Option, Some, None, List, [], ◌∷◌, ◌++◌, length, map, append-nil, add-one, add-zero, zero-add, refl, ap, sym, ◌∙◌, subst, arith, add_assoc, ◌≢◌, slice_get, slice_index, flat_map, cases_lt, length-append, length-map, map-append, append_assoc, slice_get_within, slice_get-map, Addr, PieceNo, Memory, code_of, State, register_of, run, IsValid, run-valid, count_stores, hopped, Leads, IsFirstWord, IsAmongWords, page_word, Stores, store_word, memory_word, count_add, none_then, leads_weaker, stores_none, Op, words_at, words_of, Item, item_at, open_in, range_of, nil_from_length, IsSilent, long_jump, HasWords, stores_then, leads_then, open_from, Exit, Head, OfWord, Shape, bare, exit_items, head_items, items_of, mark_items, marked, leads_none, silent_none, silent_then, Hops, IsAboutToRun, long_jump_fits, HasCode, stays, jumps_hop, IsOnWay, in_first_word, is_spill, spills_on, cells_in, operations_on, snippet_on, updates, Pieces}
 use Rattle.layout.specs.declared.items.Item.TheVariants as it
 use Rattle.code_runs.proofs.LongJump.{long_jumps_hop}
 use Rattle.layout.specs.Laid.{OpenMark, is_jump, size_of}
 use Rattle.image_code.proofs.Points.{Forms, Site}
 use Rattle.image_code.proofs.PointShapes.{LeadsTo, Reaches}
-use Rattle.image_code.specs.declared.shape.Exit.TheVariants as exits
-use Rattle.image_code.proofs.Between.{IsFit, fits, item_below, item_size, on_none, stores_weaker}
-use Rattle.image_code.proofs.Cells.{cell_low, cells_above, cell_stored, own_stored, page_above, page_there, may_below, may_beside, may_own, operations_then, updates_same, updates_then, word_kept}
-use Rattle.image_code.proofs.Dead.{IsAlike, LastDead, NothingDead, alike_same, alike_then, last_first, last_others, last_parted, nothing_parted}
-use Rattle.image_code.proofs.Memories.{images_stored}
+use Rattle.image_code.proofs.Cells.{IsFit, IsNoted, fits, item_below, item_size, stores_weaker, cell_low, cells_above, cell_stored, own_stored, page_above, page_there, may_store, operations_then, updates_same, updates_then, word_kept, images_stored}
+use Rattle.image_code.proofs.Dead.{IsAlike, LastDead, NothingDead, alike_same, alike_then, last_parted, nothing_parted}
 use Rattle.image_code.proofs.Positions.{get_second}
-use Rattle.image_code.proofs.Shapes.{HeadIs, has_words, head_is, is_branch}
+use Rattle.image_code.proofs.Shapes.{has_words, head_is, is_branch}
 use Rattle.image_code.proofs.Sparing.{first_cell, first_kept_word, same_steps, spill_cell, spill_first, spills_then}
+use Rattle.image_code.specs.declared.shape.Exit.TheVariants as exits
+use Rattle.layout.proofs.Going.{word_is}
 
 -- ---- items without a Mark
 
-abbrev IsUnmarked : Item → Type 0
-IsUnmarked (it.Mark address node) = ⊥
-IsUnmarked it.EndMark = ⊥
-IsUnmarked _ = Unit {0}
-
 abbrev pub AreUnmarked : List Item → Type 0
 AreUnmarked [] = Unit {0}
-AreUnmarked (x ∷ xs) = IsUnmarked x × AreUnmarked xs
+AreUnmarked (it.Mark address node ∷ xs) = ⊥
+AreUnmarked (it.EndMark ∷ xs) = ⊥
+AreUnmarked (x ∷ xs) = AreUnmarked xs
 
-pub words_unmarked : (ws : List ℕ) (xs : List Item) → AreUnmarked xs → AreUnmarked (map it.Word ws ++ xs)
+words_unmarked : (ws : List ℕ) (xs : List Item) → AreUnmarked xs → AreUnmarked (map it.Word ws ++ xs)
 words_unmarked [] xs are = are
-words_unmarked (w ∷ ws) xs are = (tt, words_unmarked ws xs are)
+words_unmarked (w ∷ ws) xs are = words_unmarked ws xs are
 
-pub unmarked_open : (xs : List Item) (n k : ℕ) → AreUnmarked xs → open_from xs n k None ≡ None
+unmarked_open : (xs : List Item) (n k : ℕ) → AreUnmarked xs → open_from xs n k None ≡ None
 unmarked_open [] n k are = refl
 unmarked_open (x ∷ xs) n zero are = refl
-unmarked_open (it.Mark a b ∷ xs) n (suc k) are = absurd are.0
-unmarked_open (it.EndMark ∷ xs) n (suc k) are = absurd are.0
-unmarked_open (x ∷ xs) n (suc k) are = unmarked_open xs (suc n) k are.1
+unmarked_open (it.Mark a b ∷ xs) n (suc k) are = absurd are
+unmarked_open (it.EndMark ∷ xs) n (suc k) are = absurd are
+unmarked_open (x ∷ xs) n (suc k) are = unmarked_open xs (suc n) k are
 
 pub length_words : (ws : List ℕ) → length (map it.Word ws) ≡ length ws
 length_words ws = length-map ws it.Word
@@ -60,20 +56,15 @@ words_on l edges = map it.Word (flat_map l.codes edges)
 
 -- ---- the items of a shape
 
-pub exit_unmarked : (exit : Exit) → AreUnmarked (exit_items exit)
-exit_unmarked exits.Behind = tt
-exit_unmarked (exits.Piece piece) = (tt, tt)
-exit_unmarked (exits.Far to) = (tt, (tt, (tt, (tt, tt))))
-exit_unmarked exits.Found = (tt, (tt, (tt, tt)))
-exit_unmarked exits.Foreign = (tt, (tt, (tt, (tt, tt))))
+exit_unmarked : (exit : Exit) → AreUnmarked (exit_items exit)
 exit_unmarked (exits.Saved code) = rw append-nil at (words_unmarked code [] tt)
+exit_unmarked _ = tt
 
 pub head_unmarked : (address : Addr) (head : Head) → AreUnmarked (head_items address head)
-head_unmarked address head = by (head_is address head)
-  where
-    by : HeadIs address head → AreUnmarked (head_items address head)
-    by (has_words ws is many) = rw is (rw append-nil at (words_unmarked ws [] tt))
-    by (is_branch cond to is) = rw is (tt, tt)
+head_unmarked address head = elim (head_is address head) [
+  | has_words ws is many ↦ rw is (rw append-nil at (words_unmarked ws [] tt))
+  | is_branch cond to is ↦ rw is tt
+]
 
 -- how many items stand before the snippets
 abbrev pub front_of : Shape → ℕ
@@ -81,60 +72,43 @@ front_of s = length (mark_items s.mark [])
 
 mark_first : (mark : Option (OfWord × Head)) (rest : List Item) → mark_items mark rest ≡ mark_items mark [] ++ rest
 mark_first None rest = refl
-mark_first (Some (visit, head)) rest =
-    ap (λ xs. it.Mark visit.address visit.node ∷ xs)
-    (sym (append_assoc (head_items visit.address head) (it.EndMark ∷ []) rest))
+mark_first (Some (visit, head)) rest = rw append_assoc
 
 -- behind the end of a Mark none is open
-open_behind : (hs xs : List Item) (n k j : ℕ) (o : Option OpenMark) → k ≡ length (hs ++ it.EndMark ∷ []) + j
-    → AreUnmarked hs → AreUnmarked xs → open_from ((hs ++ it.EndMark ∷ []) ++ xs) n k o ≡ None
-open_behind [] xs n zero j o e hs are = absurd (omega (arith, e))
-open_behind [] xs n (suc k) j o e hs are = unmarked_open xs (suc n) k are
-open_behind (x ∷ hs) xs n zero j o e those are = absurd (omega (arith, e))
-open_behind (it.Mark a b ∷ hs) xs n (suc k) j o e those are = absurd those.0
-open_behind (it.EndMark ∷ hs) xs n (suc k) j o e those are = absurd those.0
-open_behind (x ∷ hs) xs n (suc k) j o e those are =
-    open_behind hs xs (suc n) k j o (omega (arith, e)) those.1 are
+open_behind : (hs xs : List Item) (n k : ℕ) (o : Option OpenMark) → length hs < k → AreUnmarked hs → AreUnmarked xs
+    → open_from (hs ++ it.EndMark ∷ xs) n k o ≡ None
+open_behind [] xs n (suc k) o l none are = unmarked_open xs (suc n) k are
+open_behind (it.Mark a b ∷ hs) xs n k o l none are = absurd none
+open_behind (it.EndMark ∷ hs) xs n k o l none are = absurd none
+open_behind (x ∷ hs) xs n (suc k) o l none are = open_behind hs xs (suc n) k o (omega (arith, l)) none are
+open_behind _ xs n zero o l none are = absurd (omega (arith, l))
 
-front_shut : (mark : Option (OfWord × Head)) (rest : List Item) (j : ℕ) → AreUnmarked rest
-    → open_from (mark_items mark [] ++ rest) 0 (length (mark_items mark []) + j) None ≡ None
-front_shut None rest j are = unmarked_open rest 0 (0 + j) are
-front_shut (Some (visit, head)) rest j are =
+front_shut : (mark : Option (OfWord × Head)) (rest : List Item) (k : ℕ) → length (mark_items mark []) ≤ k
+    → AreUnmarked rest → open_from (mark_items mark rest) 0 k None ≡ None
+front_shut None rest k few are = unmarked_open rest 0 k are
+front_shut (Some (visit, head)) rest zero few are = refl
+front_shut (Some (visit, head)) rest (suc k) few are =
     let hs = head_items visit.address head in
-    let next : length (mark_items (Some (visit, head)) []) + j ≡ suc (length (hs ++ it.EndMark ∷ []) + j) = omega arith in
-    rw next (open_behind hs rest 1 _ j _ refl (head_unmarked visit.address head) are)
+    open_behind hs rest 1 k _ (omega (arith, few, length-append hs (it.EndMark ∷ []))) (head_unmarked visit.address head) are
 
--- behind what its Mark has, if it has one
-from_mark : (l : Pieces) (k : ℕ) (mark : Option (OfWord × Head)) (rest : List Item) → AreUnmarked rest
-    → slice_get l.list k ≡ Some (mark_items mark rest) → PieceFrom l k (length (mark_items mark [])) rest
-from_mark l k mark rest are is =
-    let whole = is ∙ ap (λ (xs : List Item). Some xs) (mark_first mark rest) in
-    record {
-      within = slice_get_within l.list k _ is;
-      size = rw whole (length-append (mark_items mark []) rest);
-      items = λ j. rw whole (get_second (mark_items mark []) rest j);
-      shut = λ j. rw whole (front_shut mark rest j are);
-    }
-
--- behind an item that is no Jump, the last of some words is none
-ends_without_jump : (x : Item) (ws : List ℕ) → is_jump (Some x) ≡ false
-    → is_jump (slice_get (x ∷ map it.Word ws) (length ws)) ≡ false
-ends_without_jump x [] h = h
-ends_without_jump x (w ∷ ws) h = ends_without_jump (it.Word w) ws refl
+-- behind an item that is no Jump, none of some words is one
+no_jump : (x : Item) (ws : List ℕ) (n : ℕ) → is_jump (Some x) ≡ false
+    → is_jump (slice_get (x ∷ map it.Word ws) n) ≡ false
+no_jump x ws zero h = h
+no_jump x [] (suc n) h = refl
+no_jump x (w ∷ ws) (suc n) h = no_jump (it.Word w) ws n refl
 
 -- without an exit no Jump stands at the end of a piece
 last_falls : (mark : Option (OfWord × Head)) (ws : List ℕ)
     → let items = mark_items mark (map it.Word ws) in is_jump (slice_get items (length items - 1)) ≡ false
 last_falls None [] = refl
-last_falls None (w ∷ ws) =
-    let last : length (it.Word w ∷ map it.Word ws) - 1 ≡ length ws = omega (arith, length-map ws it.Word) in
-    rw last (ends_without_jump (it.Word w) ws refl)
+last_falls None (w ∷ ws) = no_jump (it.Word w) ws _ refl
 last_falls (Some (visit, head)) ws =
     let before = it.Mark visit.address visit.node ∷ head_items visit.address head in
     let behind = it.EndMark ∷ map it.Word ws in
     let last : length (before ++ behind) - 1 ≡ length before + length ws =
     omega (arith, length-append before behind, length-map ws it.Word) in
-    rw (last, get_second before behind (length ws)) (ends_without_jump it.EndMark ws refl)
+    rw (last, get_second before behind (length ws)) (no_jump it.EndMark ws _ refl)
 
 -- edges without operations leave the cells
 no_updates : (snips : List (List Op)) (edges cells : List ℕ) (s : State) → operations_on snips edges ≡ 0
@@ -149,10 +123,11 @@ module _ (site : Site) where
 
   -- in the code, and in no place
   abbrev pub IsInNoPlace : State → Type 0
-  IsInNoPlace u = (base ≤ u.pc) × (u.pc < base + 4 * length p.code) × (range_in p.ranges u.pc ≡ None)
+  IsInNoPlace u = IsNoted site None u.pc
 
   pub bare_on : (t u : State) → u.ending ≡ None → IsInNoPlace u → IsOnWay g t u
-  bare_on t u live bare = on_none site t u live bare.0 bare.1 bare.2
+  bare_on t u live bare =
+      record { live = live; visit = rw (live, bare.0, bare.1); place = λ r e. let none = bare.0 in absurd (cc) }
 
   -- Where the original goes on at a word of the text, it is known what the way stores, and that it takes a word for
   -- each four of its bound where nothing is long.
@@ -180,20 +155,12 @@ module _ (site : Site) where
     pub told : next ≢ None → IsTold edges a most count memory
 
   -- where a way ends
-  pub arrived : {next : Option ℕ} (edges : List ℕ) (a : State) (to most : ℕ) → IsFit site a → to ≤ 2 ^ 31
-      → (w : FollowsRoute next edges a to most)
-      → IsFit site (hopped w.other to w.memory)
+  pub arrived : {next : Option ℕ} (edges : List ℕ) (a : State) (to most : ℕ)
+      → IsFit site a → to ≤ 2 ^ 31 → (w : FollowsRoute next edges a to most) → IsFit site (hopped w.other to w.memory)
   arrived edges a to most k low w =
       let b : State = hopped w.other to w.memory in
       fits site b (subst IsValid w.path.steps (run-valid a w.count k.valid)) (w.alike.ending ∙ k.runs.ready.live)
       (omega arith) refl (images_stored site a b w.count w.path.steps w.stores k.has)
-
-  -- stores in word 0 of the page leave the others
-  first_kept : (a : State) (m : Memory) → IsFit site a → Stores IsFirstWord a.memory m → (n : ℕ) → 0 < n → n < 8
-      → memory_word m (page_word n) ≡ memory_word a.memory (page_word n)
-  first_kept a m fit stores n some few =
-      word_kept IsFirstWord (page_word n) (λ z e. inr (omega (arith, e, some))) a.memory m stores
-      (page_there site a.memory fit.has.ours n few)
 
   -- in no place, and along edges without operations
   hops_on : {next : Option ℕ} {May : ℕ → Type 0} (edges : List ℕ) → operations_on g.snips edges ≡ 0 → (a : State)
@@ -203,22 +170,12 @@ module _ (site : Site) where
       → (next ≢ None → IsTold edges a most count m) → FollowsRoute next edges a to most
   hops_on edges none a to most count m fit hops in_page same few bare told =
       let stores = stores_weaker _ IsPageWord a.memory m in_page hops.stores in
-      record {
-        count = count;
-        other = a;
-        memory = m;
-        few = omega (arith, few);
-        path = leads_weaker _ _ a _ count (λ u q. bare u (omega (arith, q.past)) q.before) hops.path;
-        silent = hops.silent;
-        stores = own_stored site a.memory m stores;
-        target_in_page = same;
-        cells = λ _. cells_above site IsPageWord page_above a.memory m fit.has.ours stores
-            ∙ sym (no_updates g.snips edges (cells_in g.notes a) a none);
-        begins = λ some. bare a (omega arith) (omega (arith, some));
-        alike = alike_same g edges a (hopped a to m) m refl;
-        still = λ _. refl;
-        told = told;
-      }
+      let path = leads_weaker _ IsInNoPlace a _ count (λ u q. bare u (omega (arith, q.past)) q.before) hops.path in
+      let cells = cells_above site IsPageWord page_above a.memory m fit.has.ours stores
+      ∙ sym (no_updates g.snips edges (cells_in g.notes a) a none) in
+      let begins = λ (some : 0 < count). bare a (omega arith) (omega (arith, some)) in
+      let alike = alike_same g edges a (hopped a to m) m refl in
+      search (arith, hops.silent, own_stored site a.memory m stores, begins, told)
 
   -- the way has no step
   pub bare_here : {next : Option ℕ} (edges : List ℕ) (a : State) (to most : ℕ) → operations_on g.snips edges ≡ 0
@@ -235,16 +192,14 @@ module _ (site : Site) where
 
   -- an item outside each Mark
   pub bare_item : (k n : ℕ) (x : Item) → item_at l.list k n ≡ Some x → open_in (slice_get l.list k) n ≡ None
-      → (u : State)
-      → place k n ≤ u.pc → u.pc < place k (suc n) → IsInNoPlace u
+      → (u : State) → place k n ≤ u.pc → u.pc < place k (suc n) → IsInNoPlace u
   bare_item k n x item closed u low high =
-      let size = item_size l.list k n x item in
       let here = item_below l.list k n x item in
-      let ends = (placed.laid.within k (suc n) here (omega arith)).ends in
-      let starts = (placed.laid.within k n here (omega arith)).begins in (
-        omega arith,
-        omega arith,
-        placed.laid.ranges k n u.pc x item low high ∙ ap (range_of (place k)) closed,
+      let size = item_size l.list k n x item in
+      let above : base ≤ u.pc = omega (arith, (placed.laid.within k n here (omega (arith, size))).begins, low) in
+      let below : u.pc < base + 4 * length p.code = omega (arith, (placed.laid.within k (suc n) here size).ends, high) in (
+        placed.noted.ranges u.pc above below ∙ placed.laid.ranges k n u.pc x item low high ∙ ap (range_of (place k)) closed,
+        placed.noted.inside u.pc above below,
       )
 
   -- a Jump outside each Mark
@@ -254,7 +209,9 @@ module _ (site : Site) where
   jump_on next k n z item closed a fit at =
       let j = jumps_hop l.list base p place placed.laid k n z item a fit.runs at in
       let ins = j.inside in
-      let kept = first_kept a j.memory fit j.hops.stores in
+      let kept : (n : ℕ) → 0 < n → n < 8 → memory_word j.memory (page_word n) ≡ memory_word a.memory (page_word n) =
+      λ n some few. word_kept IsFirstWord (page_word n) (λ z e. inr (omega (arith, e, some))) a.memory j.memory
+      j.hops.stores (page_there site a.memory fit.has.ours n few) in
       hops_on [] refl a (slice_index p.at z.0) 4 j.count j.memory fit j.hops (λ z e. inl e)
       (kept 1 (omega arith) (omega arith)) (omega (arith, j.few))
       (λ u from to. bare_item k n (it.Jump z) item closed u (omega (arith, at, from)) (omega (arith, at, to, ins)))
@@ -282,8 +239,16 @@ module _ (site : Site) where
             (λ z e. e) one.stores other.stores;
         target_in_page = other.target_in_page ∙ one.target_in_page;
         cells = λ d.
-            other.cells (last_others g first others d) ∙ read_alike (last_parted g first others d)
-            ∙ rw (one.cells (last_first g first others d)) (sym (updates_then g.snips first others (cells_in g.notes a) a));
+            let parts = last_parted g first others d in
+            -- the later snippets read what the earlier ones left
+            let read : updates g.snips others (cells_in g.notes b) b ≡ updates g.snips others (cells_in g.notes b) a =
+            elim parts.2 [
+              | inl none ↦ rw none
+              | inr nothing ↦
+                  updates_same g.snips others _ b a (ap (λ (z : State). register_of z) (one.still nothing))
+            ] in
+            other.cells parts.1 ∙ read
+            ∙ rw (one.cells parts.0) (sym (updates_then g.snips first others (cells_in g.notes a) a));
         begins = λ some. elim (cases_lt 0 one.count) [
           | inl more ↦ one.begins more
           | inr none ↦
@@ -298,23 +263,11 @@ module _ (site : Site) where
             let both = count_add (is_spill g.notes) a b one.count one.path.steps other.count in
             let q = one.told there in
             let r = other.told there in
-            record {
-              found = r.found ∙ q.found;
-              spares = omega (arith, q.spares, r.spares, spills_then g first others, both);
-              leaves_first = λ short.
-                  none_then in_first_word a b one.count other.count one.path.steps (q.leaves_first short)
-                  (r.leaves_first short);
-              brief = λ short. omega (arith, q.brief short, r.brief short, operations_then g.snips first others);
-            };
+            let first_word = none_then in_first_word a b one.count other.count one.path.steps in
+            let spills = spills_then g first others in
+            let few = operations_then g.snips first others in
+            search (arith, both, first_word, spills, few, q.leaves_first, q.brief, r.leaves_first, r.brief);
       })
-    where
-      -- the later snippets read what the earlier ones left
-      read_alike : (others ≡ []) ⊎ NothingDead g first
-          → updates g.snips others (words_at g.notes.base g.notes.cells one.memory) (hopped one.other mid one.memory)
-          ≡ updates g.snips others (words_at g.notes.base g.notes.cells one.memory) a
-      read_alike (inl none) = rw none
-      read_alike (inr nothing) =
-          updates_same g.snips others _ _ a (ap (λ (z : State). register_of z) (one.still nothing))
 
   -- ---- words
 
@@ -324,10 +277,6 @@ module _ (site : Site) where
     pub end : place k (n + length ws) ≡ place k n + 4 * length ws
     pub low : place k (n + length ws) ≤ 2 ^ 31
     pub bare : (u : State) → place k n ≤ u.pc → u.pc < place k n + 4 * length ws → IsInNoPlace u
-
-  word_fetched : (m : Memory) → HasCode base p.code m → (a w : ℕ) → IsWordAt base p.code a w
-      → fetch_from (code_of m) a ≡ Some w
-  word_fetched m has a w (n, at, found) = ap (fetch_from (code_of m)) at ∙ has n w found
 
   -- wherever they stand
   pub words_laid : (m : Memory) → HasCode base p.code m → (k n : ℕ) (ws : List ℕ) (xs : List Item)
@@ -339,7 +288,7 @@ module _ (site : Site) where
       let more = words_laid m has k (suc n) ws xs
       (λ j. let e : suc n + j ≡ n + suc j = omega arith in rw e (items (suc j))) in
       let all : n + suc (length ws) ≡ suc n + length ws = omega arith in (
-        (word_fetched m has (place k n) w at.1, rw at.0 at more.0),
+        (word_is base (place k n) w p.code m has at.1, rw at.0 at more.0),
         omega (arith, ap (place k) all, more.1, at.0),
       )
 
@@ -385,60 +334,45 @@ module _ (site : Site) where
       let end = there.end in
       let low = there.low in
       let short = placed.cells.short edge in
+      let named = placed.cells.named edge in
+      let page = page_there site a.memory fit.has.ours in
       let about : IsAboutToRun words g.notes.base (snippet_on g.snips edge) a = record {
         valid = fit.valid;
         ready = fit.runs.ready;
         slot = fit.runs.slot;
         low = omega (arith, at, end, low);
-        stand = subst (λ z. HasWords (code_of a.memory) z words) (sym at) there.words;
-        cell = λ cell named. cell_stored site a.memory fit.has.ours cell
-            (placed.cells.named edge cell named);
-        page = λ i few. page_there site a.memory fit.has.ours (i + 2) (omega (arith, few));
+        stand = rw at there.words;
+        cell = λ cell its. cell_stored site a.memory fit.has.ours cell (named cell its);
+        page = λ i few. page (i + 2) (omega (arith, few));
       } in
-      let past = placed.cells.does edge (is_spill g.notes) (λ cell named.
-      spill_cell g.notes cell (placed.cells.named edge cell named)) a about in
-      let again = placed.cells.does edge in_first_word (λ cell named.
-      first_cell _ (cell_low site cell (placed.cells.named edge cell named))) a about in
+      let past = placed.cells.does edge (is_spill g.notes) (λ cell its. spill_cell g.notes cell (named cell its)) a about in
+      let again = placed.cells.does edge in_first_word
+      (λ cell its. first_cell _ (cell_low site cell (named cell its))) a about in
       let same : again.steps ≡ past.steps =
-      same_steps a again.steps past.steps (a.pc + 4 * length words) (rw again.path.steps again.pc)
-      (rw past.path.steps past.pc) (λ j some less. (again.path.during j some less).before)
-      (λ j some less. (past.path.during j some less).before)
+      same_steps a again.steps past.steps (a.pc + 4 * length words) (rw again.path.steps again.pc) (rw past.path.steps past.pc)
+      (λ j some less. (again.path.during j some less).before) (λ j some less. (past.path.during j some less).before)
       (λ e. (omega (arith, e, again.few), omega (arith, e, past.few))) in
       let few = past.few in
       let pc = past.pc in
-      let there_is =
-      stays past.after (place k (n + length words)) (omega (arith, pc, at, end)) (omega (arith, pc, past.npc)) past.slot
-      (omega (arith, low)) in
+      let found = word_kept _ _ (λ z may. (may_store site edge z may).2) _ _ past.stores (page 7 (omega arith)) in
+      let first = again.elsewhere (λ word _. first_kept_word word) in
+      let there_is = stays past.after (place k (n + length words)) (omega (arith, pc, at, end)) (omega (arith, pc, past.npc))
+      past.slot (omega (arith, low)) in
       record {
         count = past.steps;
         other = past.after;
         memory = past.after.memory;
         few = omega (arith, few, short);
-        path = rw there_is
-            (leads_weaker _ IsInNoPlace a past.after past.steps
+        path = rw there_is (leads_weaker _ IsInNoPlace a past.after past.steps
             (λ u q. there.bare u (omega (arith, at, q.past)) (omega (arith, at, q.before))) past.path);
         silent = past.silent;
-        stores = stores_weaker _ _ _ _ (may_own site edge) past.stores;
-        target_in_page = word_kept _ _ (may_beside site edge) _ _ past.stores
-            (page_there site a.memory fit.has.ours 1 (omega arith));
-        cells = λ _. past.cells g.notes.cells (placed.cells.named edge) placed.cells.low;
+        stores = stores_weaker _ _ _ _ (λ z may. (may_store site edge z may).0) past.stores;
+        target_in_page = word_kept _ _ (λ z may. (may_store site edge z may).1) _ _ past.stores (page 1 (omega arith));
+        cells = λ _. past.cells g.notes.cells named placed.cells.low;
         begins = λ some. there.bare a (omega (arith, at)) (omega (arith, at, some, few));
-        alike = rw there_is (record {
-          ending = past.live ∙ sym fit.runs.ready.live;
-          window = past.window;
-          valid = past.windows;
-          input = past.input;
-          registers = past.registers ∙ sym fit.valid.registers.count;
-          items = λ item kept. past.items item kept.0;
-        });
+        alike = rw there_is (search (λ (item : StateItem) (kept : IsKept g (edge ∷ []) a.window item). past.items item kept.0));
         still = λ d. ap (λ (z : State). hopped z (place k (n + length words)) past.after.memory) (past.all d.0);
-        told = λ _. record {
-          found = word_kept _ _ (may_below site edge) _ _ past.stores
-              (page_there site a.memory fit.has.ours 7 (omega arith));
-          spares = omega (arith, past.stored);
-          leaves_first = λ _. rw (← same) (again.elsewhere (λ word _. first_kept_word word));
-          brief = λ _. omega (arith, few, short);
-        };
+        told = λ _. search (arith, found, past.stored, same, first, few, short);
       }
 
   pub snippets_run : (next : Option ℕ) (edges : List ℕ) (k n : ℕ) (xs : List Item) → PieceFrom l k n (words_on l edges ++ xs)
@@ -475,40 +409,25 @@ module _ (site : Site) where
   words_hop k n to xs fits r a fit at some in_page word v other does =
       let there = stood a.memory fit.has.code k n (words_of xs) [] (rw append-nil r) in
       let many : length (words_of xs) ≡ length xs = length-map xs word_of in
-      let left = store_word a.memory (page_word word) v in
       let hops =
       does (rw at (words_mean (code_of a.memory) (place k n) xs fits there.words))
       (omega (arith, at, many, there.end, there.low)) in
-      hops_on [] refl a to (length xs) (length xs) left fit hops in_page
+      hops_on [] refl a to (length xs) (length xs) (store_word a.memory (page_word word) v) fit hops in_page
       (other_word_stored a.memory (page_word 1) (page_word word) v
-      (page_there site a.memory fit.has.ours 1 (omega arith)) other) (omega arith) (λ u from to. there.bare u (omega (arith, at, from)) (omega (arith, at, to, many)))
-      (λ there. absurd (there refl))
+      (page_there site a.memory fit.has.ours 1 (omega arith)) other) (omega arith)
+      (λ u from to. there.bare u (omega (arith, at, from)) (omega (arith, at, to, many))) (λ there. absurd (there refl))
 
   -- ---- weaker statements
 
   -- where of fewer ways it is asked what they store, and the bound is no lower
   unfoldable pub eased : {next after : Option ℕ} (edges : List ℕ) (a : State) (to few most : ℕ)
       → (after ≢ None → next ≢ None) → few ≤ most → FollowsRoute next edges a to few → FollowsRoute after edges a to most
-  eased edges a to few most asked less one =
-      record {
-        count = one.count;
-        other = one.other;
-        memory = one.memory;
-        few = omega (arith, less, one.few);
-        path = one.path;
-        silent = one.silent;
-        stores = one.stores;
-        target_in_page = one.target_in_page;
-        cells = one.cells;
-        begins = one.begins;
-        alike = one.alike;
-        still = one.still;
-        told = λ there.
-            let q = one.told (asked there) in
-            let brief : Forms site → 4 * one.count ≤ most + 88 * operations_on g.snips edges =
-            λ short. omega (arith, less, q.brief short) in
-            assumption (brief, q);
-      }
+  eased {after = after} edges a to few most asked less one =
+      let bound : one.count ≤ most + 22 * operations_on g.snips edges = omega (arith, less, one.few) in
+      let told : after ≢ None → IsTold edges a most one.count one.memory = λ there.
+      let q = one.told (asked there) in
+      record { found = q.found; spares = q.spares; leaves_first = q.leaves_first; brief = λ z. omega (arith, less, q.brief z) } in
+      search (one.silent, one.cells, one.begins, one.still, told)
 
   abbrev pub weaker_route : {next : Option ℕ} (edges : List ℕ) (a : State) (to few most : ℕ) → few ≤ most
       → FollowsRoute next edges a to few → FollowsRoute next edges a to most
@@ -522,24 +441,28 @@ module _ (site : Site) where
   -- ---- the piece of a shape
 
   pub items_at : (k : ℕ) (s : Shape) → slice_get shapes k ≡ Some s → slice_get l.list k ≡ Some (items_of l.codes s)
-  items_at k s is =
-      ap (λ (list : List (List Item)). slice_get list k) made ∙ slice_get-map (items_of l.codes) shapes k
-      ∙ ap (option_map (items_of l.codes)) is
+  items_at k s is = rw (made, slice_get-map (items_of l.codes) shapes k, is)
 
   pub shape_within : (k : ℕ) (s : Shape) → slice_get shapes k ≡ Some s → k < length l.list
   shape_within k s is = slice_get_within l.list k _ (items_at k s is)
 
-  -- its snippets and its exit
+  -- its snippets and its exit, behind what its Mark has
   pub from_shape : (k : ℕ) (s : Shape) → slice_get shapes k ≡ Some s
       → PieceFrom l k (front_of s) (words_on l s.edges ++ exit_items s.exit)
   from_shape k s is =
-      from_mark l k s.mark _ (words_unmarked (flat_map l.codes s.edges) (exit_items s.exit) (exit_unmarked s.exit))
-      (items_at k s is)
+      let rest = words_on l s.edges ++ exit_items s.exit in
+      let whole = items_at k s is ∙ ap (λ (xs : List Item). Some xs) (mark_first s.mark rest) in
+      record {
+        within = shape_within k s is;
+        size = rw whole (length-append (mark_items s.mark []) rest);
+        items = λ j. rw whole (get_second (mark_items s.mark []) rest j);
+        shut = λ j. rw (items_at k s is) (front_shut s.mark rest _ (omega arith)
+            (words_unmarked (flat_map l.codes s.edges) (exit_items s.exit) (exit_unmarked s.exit)));
+      }
 
   -- a piece that ends in words goes on in the next one
-  pub falls : (k : ℕ) (s : Shape) (ws : List ℕ) → slice_get shapes k ≡ Some s
-      → words_on l s.edges ++ exit_items s.exit ≡ map it.Word ws → suc k < length l.list
-      → place k (size_of l.list k) ≡ slice_index p.at (suc k)
+  pub falls : (k : ℕ) (s : Shape) (ws : List ℕ) → slice_get shapes k ≡ Some s → words_on l s.edges ++ exit_items s.exit
+      ≡ map it.Word ws → suc k < length l.list → place k (size_of l.list k) ≡ slice_index p.at (suc k)
   falls k s ws is words next =
       let items = items_at k s is ∙ ap (λ (xs : List Item). Some (mark_items s.mark xs)) words in
       let closed : is_jump (item_at l.list k (size_of l.list k - 1)) ≡ false = rw items (last_falls s.mark ws) in
@@ -551,8 +474,7 @@ module _ (site : Site) where
   exit_most _ = 4
 
   exit_few : (exit : Exit) → exit_most exit ≤ 4
-  exit_few exits.Behind = omega arith
-  exit_few _ = omega arith
+  exit_few exit = grind arith
 
   exit_runs : (k n : ℕ) (exit : Exit) → PieceFrom l k n (exit_items exit)
       → (exit ≡ exits.Behind → suc k < length l.list → place k (size_of l.list k) ≡ slice_index p.at (suc k))
@@ -616,6 +538,5 @@ module _ (site : Site) where
       let one = shape_runs k s is a next to fit at reaches in (
         weaker_route s.edges a to (exit_most s.exit) 8 (omega (arith, exit_few s.exit)) one,
         λ there none.
-            let few : exit_most s.exit ≡ 0 = ap exit_most (alone there none) in
-            omega (arith, one.few, few, ap (operations_on g.snips) none),
+            omega (arith, one.few, ap exit_most (alone there none), ap (operations_on g.snips) none),
       )

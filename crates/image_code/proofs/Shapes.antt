@@ -1,11 +1,11 @@
 -- What holds of each shape: what may be placed, how much room it takes, and where its Mark stands.
-use Rattle.image_code.proofs.Common.{◌≡◌, ℕ, zero, suc, ◌+◌, ◌<◌, ◌≤◌, Bool, true, false, cond, Option, Some, None, List, [], ◌∷◌, ◌++◌, append-nil, length, length-append, length-map, map, map-append, flat_map, refl, ap, sym, ◌∙◌, arith, if◌then◌else◌, slice_get, slice_index, sum_by-cons, Words, address_of, word_at, Addr, PieceNo, decode_of, is_transfer, Node, Graph, IsNodeIn, Item, word_at-address, LeadsBelow, Placement, piece_words, link, long_jump, resume, foreign, word_of, words_of, Exit, Head, OfWord, Shape, bare, exit_items, head_items, items_of, mark_items, marked, couple_word, switch_jump, choose, is_mark, marks_in}
+use Rattle.image_code.proofs.Common.{◌≡◌, ℕ, zero, suc, ◌+◌, ◌<◌, ◌≤◌, Bool, true, false, cond, Option, Some, None, List, [], ◌∷◌, ◌++◌, append-nil, length, length-append, length-map, map, map-append, flat_map, refl, ap, sym, ◌∙◌, arith, if◌then◌else◌, slice_get, slice_index, sum_by-cons, Words, address_of, word_at, Addr, PieceNo, decode_of, is_transfer, Node, Graph, IsNodeIn, Item, word_at-address, LeadsBelow, Placement, piece_words, link, long_jump, resume, foreign, words_of, Exit, Head, OfWord, Shape, bare, exit_items, head_items, items_of, mark_items, marked, couple_word, switch_jump, is_mark, marks_in}
 use Rattle.layout.specs.declared.items.Item.TheVariants as it
 use Rattle.layout.specs.Laid.{AreMarked, BranchStands, Stands, branch_long, branch_short, long_words}
 use Rattle.image_code.specs.declared.shape.Exit.TheVariants as exits
 use Rattle.image_code.specs.declared.shape.Head.TheVariants as heads
 use Rattle.image_code.specs.Made.{visit_of}
-use Rattle.image_code.proofs.Branches.{within_is}
+use Rattle.cfg_walk.proofs.Points.{within_some}
 
 -- ---- how much room a shape takes
 
@@ -30,8 +30,7 @@ marks_of None = 0
 marks_of (Some m) = 1
 
 pub link_few : (rd address : ℕ) → length (link rd address) ≤ 2
-link_few zero address = omega arith
-link_few (suc rd) address = omega arith
+link_few rd address = grind arith
 
 -- ---- what stands in a Mark
 
@@ -46,21 +45,14 @@ head_is address (heads.Branch cond to) = is_branch cond to refl
 head_is address heads.Call = has_words (words_of (link 15 address.0)) refl (omega arith)
 head_is address heads.Couple = has_words (couple_word ∷ couple_word ∷ []) refl (omega arith)
 head_is address (heads.LookUp code rd) =
-    let its_link = words_of (link rd address.0) in
-    has_words (code ++ its_link) (sym (map-append it.Word code its_link))
-    (omega (arith, length-append code its_link, length-map (link rd address.0) word_of, link_few rd address.0))
+    has_words (code ++ words_of (link rd address.0)) (sym (map-append it.Word code (words_of (link rd address.0))))
+    (simp (length-append, length-map) (omega (arith, link_few rd address.0)))
 head_is address (heads.SwitchJump rd distance) =
     has_words (words_of (switch_jump rd address.0 distance)) refl
-    (omega (
-      arith,
-      length-map (switch_jump rd address.0 distance) word_of,
-      length-append (link rd address.0) (choose distance),
-      link_few rd address.0,
-    ))
+    (simp (length-map, length-append) (omega (arith, link_few rd address.0)))
 
 pub switch_some : (address : Addr) (rd distance : ℕ) → 0 < length (head_items address (heads.SwitchJump rd distance))
-switch_some address zero distance = omega arith
-switch_some address (suc r) distance = omega arith
+switch_some address rd distance = grind arith
 
 branch_room : (base : ℕ) (code : List ℕ) (cond to a b : ℕ) → BranchStands base code cond to a b → a < b
 branch_room base code cond to a b (branch_short d e r s) = omega arith
@@ -79,18 +71,10 @@ first_of base p address head some = by (head_is address head)
   where
     by : HeadIs address head → HasFirst base p (head_items address head)
     by (has_words [] is many) = let none = ap length is in absurd (omega (arith, some, none))
-    by (has_words (w ∷ ws) is many) = record {
-      item = it.Word w;
-      rest = map it.Word ws;
-      is = is;
-      room = λ a b h. let e : b ≡ a + 4 = h.0 in omega arith;
-    }
-    by (is_branch cond to is) = record {
-      item = it.Branch cond to;
-      rest = [];
-      is = rw is refl;
-      room = λ a b h. branch_room base p.code cond (slice_index p.at to.0) a b h;
-    }
+    by (has_words (w ∷ ws) is many) =
+        record { item = it.Word w; rest = map it.Word ws; is = is; room = λ a b h. omega (arith, h) }
+    by (is_branch cond to is) =
+        record { item = it.Branch cond to; rest = []; is = rw is refl; room = branch_room _ _ _ _ }
 
 -- ---- what a shape may be
 
@@ -173,13 +157,6 @@ exit_marked : (exit : Exit) → AreMarked false (exit_items exit)
 exit_marked (exits.Saved code) = rw append-nil at (words_marked false code [] tt)
 exit_marked _ = tt
 
-head_marked : (address : Addr) (head : Head) (rest : List Item) → AreMarked true rest
-    → AreMarked true (head_items address head ++ rest)
-head_marked address head rest m = elim (head_is address head) [
-  | has_words ws is many ↦ rw is (words_marked true ws rest m)
-  | is_branch cond to is ↦ rw is m
-]
-
 -- at most so many words and items, and so many Marks; and where they lead
 pub record IsSized (count size most : ℕ) (items : List Item) : Type 0 where
   pub words : piece_words items ≤ size
@@ -189,12 +166,12 @@ pub record IsSized (count size most : ℕ) (items : List Item) : Type 0 where
 
 module _ {count : ℕ} where
   more : (x : Item) {items : List Item} {size other most total : ℕ} → LeadsBelow count (Some x)
-      → long_words x + size ≤ other → 1 + size ≤ other → (if is_mark x then 1 else 0) + most ≤ total
+      → (long_words x + size ≤ other) × (1 + size ≤ other) × ((if is_mark x then 1 else 0) + most ≤ total)
       → IsSized count size most items → IsSized count other total (x ∷ items)
-  more x {items = items} leads long some once s = record {
-    words = omega (arith, sum_by-cons long_words x items, s.words, long);
-    few = omega (arith, s.few, some);
-    marks = omega (arith, marks_more x items, s.marks, once);
+  more x {items = items} leads room s = record {
+    words = omega (arith, sum_by-cons long_words x items, s.words, room);
+    few = omega (arith, s.few, room);
+    marks = omega (arith, marks_more x items, s.marks, room);
     leads = by;
   }
     where
@@ -206,8 +183,7 @@ module _ {count : ℕ} where
       → IsSized count size most items → IsSized count other most (map it.Word ws ++ items)
   with_words [] items l s = search arith
   with_words (w ∷ ws) items {size = size} l s =
-      more (it.Word w) tt (omega (arith, l)) (omega (arith, l)) (omega arith)
-      (with_words ws items {other = length ws + size} (omega arith) s)
+      more (it.Word w) tt (omega (arith, l)) (with_words ws items {other = length ws + size} (omega arith) s)
 
   no_items : IsSized count 0 0 []
   no_items = record { words = omega arith; few = omega arith; marks = omega arith; leads = λ n. tt }
@@ -217,29 +193,23 @@ module _ {count : ℕ} where
 
   exit_sized : (exit : Exit) → ExitLeads count exit → IsSized count 4 0 (exit_items exit)
   exit_sized exits.Behind leads = some_words [] (omega arith)
-  exit_sized (exits.Piece piece) leads =
-      more (it.Jump piece) leads (omega arith) (omega arith) (omega arith) no_items
+  exit_sized (exits.Piece piece) leads = more (it.Jump piece) leads (omega arith) no_items
   exit_sized (exits.Far to) leads = some_words (words_of (long_jump to.0)) (omega arith)
   exit_sized exits.Found leads = some_words (words_of (resume 1)) (omega arith)
   exit_sized exits.Foreign leads = some_words (words_of foreign) (omega arith)
   exit_sized (exits.Saved code) leads = some_words code leads
-
-  head_sized : (address : Addr) (head : Head) (rest : List Item) {size : ℕ} → HeadLeads count head
-      → IsSized count size 0 rest → IsSized count (head_size head + size) 0 (head_items address head ++ rest)
-  head_sized address head rest {size} leads s = elim (head_is address head) [
-    | has_words ws is many ↦ rw is (with_words ws rest (omega (arith, many)) s)
-    | is_branch cond to is ↦
-        rw is (more (it.Branch cond to) (rw is at leads) (omega arith) (omega arith) (omega arith) s)
-  ]
 
   mark_sized : (text : Words) (graph : Graph) (mark : Option (OfWord × Head)) (rest : List Item) {size : ℕ}
       → AreVisits text graph count mark → IsSized count size 0 rest
       → IsSized count (mark_size mark + size) (marks_of mark) (mark_items mark rest)
   mark_sized text graph None rest visits s = search arith
   mark_sized text graph (Some (visit, head)) rest {size = size} visits s =
-      more (it.Mark visit.address visit.node) tt (omega arith) (omega arith) (omega arith)
-      (head_sized visit.address head (it.EndMark ∷ rest) {size = 1 + size} visits.1
-      (more it.EndMark tt (omega arith) (omega arith) (omega arith) s))
+      let behind : IsSized count (1 + size) 0 (it.EndMark ∷ rest) = more it.EndMark tt (omega arith) s in
+      more (it.Mark visit.address visit.node) {size = head_size head + (1 + size)} {most = 0} tt (omega arith)
+      (elim (head_is visit.address head) [
+        | has_words ws is many ↦ rw is (with_words ws (it.EndMark ∷ rest) (omega (arith, many)) behind)
+        | is_branch cond to is ↦ rw is (more (it.Branch cond to) (rw is at visits.1) (omega arith) behind)
+      ])
 
 module _ {text : Words} {graph : Graph} {count : ℕ} (codes : ℕ → List ℕ) (s : Shape) (p : IsShaped text graph count s) where
   abbrev tail : List Item
@@ -256,7 +226,10 @@ module _ {text : Words} {graph : Graph} {count : ℕ} (codes : ℕ → List ℕ)
     where
       by : (m : Option (OfWord × Head)) → AreMarked false tail → AreMarked false (mark_items m tail)
       by None h = h
-      by (Some (visit, head)) h = head_marked visit.address head (it.EndMark ∷ tail) h
+      by (Some (visit, head)) h = elim (head_is visit.address head) [
+        | has_words ws is many ↦ rw is (words_marked true ws (it.EndMark ∷ tail) h)
+        | is_branch cond to is ↦ rw is h
+      ]
 
   -- its Mark is its first item
   pub record IsFirst (n : ℕ) (address : Addr) (node : ℕ) : Type 0 where
@@ -267,18 +240,19 @@ module _ {text : Words} {graph : Graph} {count : ℕ} (codes : ℕ → List ℕ)
 
   pub first_mark : (n : ℕ) (address : Addr) (node : ℕ) → slice_get (items_of codes s) n ≡ Some (it.Mark address node)
       → IsFirst n address node
-  first_mark n address node e = by s.mark refl p.visits n e
+  first_mark n address node e = by s.mark refl p.visits sized.marks n e
     where
-      by : (m : Option (OfWord × Head)) → s.mark ≡ m → AreVisits text graph count m → (n : ℕ)
+      by : (m : Option (OfWord × Head)) → s.mark ≡ m → AreVisits text graph count m
+          → marks_in (mark_items m tail) ≤ marks_of m → (n : ℕ)
           → slice_get (mark_items m tail) n ≡ Some (it.Mark address node) → IsFirst n address node
-      by None is visits n e = absurd (none_counted _ tail_sized.marks n address node e)
-      by (Some (visit, head)) is visits zero e =
+      by None is visits few n e = absurd (none_counted _ few n address node e)
+      by (Some (visit, head)) is visits few zero e =
           let same : visit ≡ record { address = address; node = node } = cc in
           record { first = refl; head = head; is = rw same at is; visit = rw same at visits.0 }
-      by (Some (visit, head)) is visits (suc n) e =
-          absurd (none_counted _ (head_sized visit.address head (it.EndMark ∷ tail)
-          {size = 1 + (length (flat_map codes s.edges) + 4)} visits.1
-          (more it.EndMark tt (omega arith) (omega arith) (omega arith) tail_sized)).marks n address node e)
+      by (Some (visit, head)) is visits few (suc n) e =
+          let behind = head_items visit.address head ++ it.EndMark ∷ tail in
+          let more = marks_more (it.Mark visit.address visit.node) behind in
+          absurd (none_counted behind (omega (arith, more, few)) n address node e)
 
   -- and it covers the word for which it stands
   pub mark_says : (n : ℕ) (address : Addr) (node : ℕ) → slice_get (items_of codes s) n ≡ Some (it.Mark address node)
@@ -289,5 +263,5 @@ module _ {text : Words} {graph : Graph} {count : ℕ} (codes : ℕ → List ℕ)
       let f = first_mark n address node e in
       let stands : address.0 ≡ address_of text f.visit.word = ap (λ (v : OfWord). v.address.0) f.visit.is in
       let same : f.visit.word ≡ word =
-      within_is (length text.words) f.visit.word word (sym (word_at-address text f.visit.word) ∙ rw stands at at) in
+      (within_some _ _ word (sym (word_at-address text f.visit.word) ∙ rw stands at at)).1 in
       rw (f.first, f.is, (rw same at f.visit.says) plain) refl

@@ -1,49 +1,17 @@
 -- Where the points of a text are visited, and what stands there.
-use Rattle.image_code.proofs.Common.{◌≡◌, ◌≢◌, ℕ, ◌+◌, ◌-◌, ◌%◌, ◌^◌, ◌<◌, inl, inr, Bool, true, false, Option, Some, None, List, [], ◌∷◌, suc, length, refl, ap, sym, ◌∙◌, subst, arith, ◌==◌, if◌then◌else◌, slice_get, slice_index, list_any, option_map, cond_both, eqb-true, false≢true, lt-ltb, le-ltb, address_of, word_at, Instr, decode_of, Slot, NoSlot, State, EdgeKind, Blocks, blocks_of, word_at-some, Node, Block, home_of, IsNodeIn, Open, targets_in, has_cases, lands, node_of, Point, WayOut, edge_along, instr_at, left_by, slot_left, way_of, same_kind, IsOnItsWay, MatchesBy, block, same_kinds, Placement, Addr, IsCut, holding_of, node_is, Carried, IsSlotIn, IsTarget, word_at-address, is_transfer, act, on_word, goes_act, ◌⊎◌, Exit, Head, Shape, goes_to, leaves_to, marked, or_cases, list_any-append, by_kind, way_to, IsCarried, IsTable, EditorData, IsPlaced, Pieces, place_by, slot_piece, along_case, along_number, case_piece, enter_number, image_number, jump_number, way_piece}
+use Rattle.image_code.proofs.Common.{Taken, Graph, slice_get_within, get_or_from_slice_get, ◌≡◌, ◌≢◌, ℕ, ◌+◌, ◌-◌, ◌%◌, ◌^◌, ◌<◌, inl, inr, true, false, Option, Some, None, List, [], length, refl, ap, sym, ◌∙◌, subst, arith, ◌==◌, slice_get, slice_index, option_map, eqb-true, lt-ltb, le-ltb, address_of, word_at, Instr, decode_of, Slot, NoSlot, State, EdgeKind, Blocks, blocks_of, word_at-some, Node, Block, home_of, IsNodeIn, Open, has_cases, lands, node_of, Point, WayOut, edge_along, instr_at, left_by, slot_left, way_of, same_kind, IsOnItsWay, MatchesBy, block, same_kinds, Placement, Addr, IsCut, holding_of, node_is, Carried, IsSlotIn, IsTarget, word_at-address, is_transfer, goes_act, ◌⊎◌, Exit, Head, Shape, goes_to, leaves_to, marked, by_kind, way_to, IsCarried, IsTable, EditorData, IsPlaced, Pieces, place_by, slot_piece, along_case, along_number, case_piece, enter_number, image_number, jump_number, way_piece}
 use Rattle.cfg_blocks.specs.declared.EdgeKind.TheVariants as kinds
 use Rattle.cfg_normal.specs.declared.Slot.TheVariants as carried
-use Rattle.image_code.specs.Simulates.{EditSetup, gone_at, graph_in, word_of, at_point, does_at}
+use Rattle.cfg_normal.proofs.LandingFacts.{targets_at}
+use Rattle.image_code.proofs.OpenBlocks.{are_open}
 use Rattle.image_code.proofs.Points.{Site, entered_at, visited_at}
 use Rattle.image_code.proofs.PointShapes.{IsJumpTarget, IsMarked, LeadsTo, Reaches}
-use Rattle.image_code.specs.Made.{AreCasesFor, IsOffNoted, IsTableFor, edit_pieces, first_way, first_word, image_by, jumps_at, shape_list, visit_of, way_by, way_out}
-use Rattle.image_code.proofs.CaseTables.{IsKnown}
-use Rattle.image_code.proofs.EdgePieces.{IsAlong, along, by_case, cut_in, facts, shape_along, shape_case, slot_in}
+use Rattle.image_code.proofs.CaseTables.{IsKnown, IsAlong, along, by_case, cut_in, facts, shape_along, shape_case, slot_in}
 use Rattle.image_code.proofs.Positions.{placed}
 use Rattle.image_code.proofs.Branches.{IsTransfersWay, way_is_own}
-use Rattle.image_code.proofs.ImageNumbers.{HasImage, jump_numbered}
-use Rattle.image_code.proofs.ImagePieces.{image_at, stands_at}
-
--- the open switch among whose targets a word is
-record IsAmongTargets (opens : List Open) (block word : ℕ) : Type 0 where
-  number : ℕ
-  o : Open
-  is : slice_get opens number ≡ Some o
-  itself : o.block ≡ block
-  entry : ℕ
-  at : slice_get o.targets entry ≡ Some word
-
-among_targets : (opens : List Open) (block word : ℕ) → list_any (λ x. x == word) (targets_in opens block) ≡ true
-    → IsAmongTargets opens block word
-among_targets [] block word any = absurd (false≢true any)
-among_targets (o ∷ opens) block word any =
-    elim (or_cases _ _ (sym (list_any-append _ (if o.block == block then o.targets else []) _) ∙ any)) [
-      | inl here ↦ cond_both (o.block == block) o.targets []
-          (λ ts. list_any (λ x. x == word) ts ≡ true → IsAmongTargets (o ∷ opens) block word)
-          (λ same e.
-          let found = placed (λ (x : ℕ). x == word) o.targets e in
-          record {
-            number = 0;
-            o = o;
-            is = refl;
-            itself = eqb-true o.block block same;
-            entry = found.number;
-            at = found.is ∙ ap (λ (z : ℕ). Some z) (eqb-true found.item word found.passes);
-          })
-          (λ _ e. absurd (false≢true e)) here
-      | inr rest ↦
-          let r = among_targets opens block word rest in
-          record { number = suc r.number; o = r.o; is = r.is; itself = r.itself; entry = r.entry; at = r.at }
-    ]
+use Rattle.image_code.proofs.ImageNumbers.{HasImage, has_image, image_at, jump_numbered}
+use Rattle.image_code.specs.Simulates.{EditSetup, gone_at, graph_in, word_of, does_at}
+use Rattle.image_code.specs.Made.{AreCasesFor, IsOffNoted, IsTableFor, edit_pieces, first_word, image_by, jumps_at, shape_list, visit_of, way_by, way_out}
 
 module _ (g : EditSetup) where
   pub word_is : (x : Point) (word : ℕ) → word_at g.text x.pc ≡ Some word
@@ -54,10 +22,7 @@ module _ (g : EditSetup) where
   pub goes_straight : (x : Point) (t : State) (word : ℕ) → word_of g.text x.pc ≡ Some word
       → is_transfer (decode_of word) ≡ false → (does_at g x t).ending ≡ None
       → ((does_at g x t).pc ≡ x.npc) × ((does_at g x t).slot ≡ NoSlot)
-  goes_straight x t word is straight live =
-      let acts : does_at g x t ≡ act (at_point x t) (decode_of word) = ap (on_word (at_point x t)) is in
-      let went = goes_act (at_point x t) (decode_of word) straight (ap (λ (z : State). z.ending) (sym acts) ∙ live) in
-      rw acts (went.0, went.2)
+  goes_straight x t word is straight live = grind (arith, goes_act)
 
   -- ---- the edges of a step: into a slot none
 
@@ -66,10 +31,9 @@ module _ (g : EditSetup) where
   nothing_gone node x v none slot live = rw (live, none) (grind arith)
 
   -- a step from one word to another, outside slots, completes the edge that it leaves along
-  pub left_gone : (node : Node) (x : Point) (v : State) → x.slot ≡ NoSlot → v.slot ≡ NoSlot → v.ending ≡ None
-      → (word : ℕ) → word_at g.text x.pc ≡ Some word → (instr : Instr)
-      → decode_of (slice_index g.text.words word) ≡ instr
-      → gone_at g node x v ≡ left_by (graph_in g) node word instr
+  pub left_gone : (node : Node) (x : Point) (v : State) → x.slot ≡ NoSlot
+      → v.slot ≡ NoSlot → v.ending ≡ None → (word : ℕ) → word_at g.text x.pc ≡ Some word → (instr : Instr)
+      → decode_of (slice_index g.text.words word) ≡ instr → gone_at g node x v ≡ left_by (graph_in g) node word instr
   left_gone node x v none after live word at instr says = rw (live, none, after, at, says)
 
   -- one from a slot completes the edge of the transfer before, and after a jump a landing
@@ -77,17 +41,13 @@ module _ (g : EditSetup) where
       → gone_at g node x v ≡ slot_left g.text (graph_in g) node (way_of (instr_at g.text (x.pc - 4)) x.slot) v.pc
   slot_gone node x v slot after live = rw (live, after) (grind arith)
 
--- in a slot, at a word or off the text
-at_slot : (image : Node → ℕ → ℕ) (g : EditSetup) (l : Pieces) (p : Placement) (f : EditorData) (node : Node) (x : Point)
-    (word : ℕ) (s : Slot) → s ≢ NoSlot
-    → place_by image g l p f node x (Some word) s ≡ slice_index p.at (slot_piece g l node x)
-at_slot image g l p f node x word NoSlot n = absurd (n refl)
-at_slot image g l p f node x word _ n = refl
-
-pub off_slot : (image : Node → ℕ → ℕ) (g : EditSetup) (l : Pieces) (p : Placement) (f : EditorData) (node : Node) (x : Point)
-    (s : Slot) → s ≢ NoSlot → place_by image g l p f node x None s ≡ f.table.base
-off_slot image g l p f node x NoSlot n = absurd (n refl)
-off_slot image g l p f node x _ n = refl
+-- in a slot
+pub slot_placed : (image : Node → ℕ → ℕ) (g : EditSetup) (l : Pieces) (p : Placement) (f : EditorData) (node : Node) (x : Point)
+    (o : Option ℕ) (s : Slot) → s ≢ NoSlot
+    → place_by image g l p f node x o s ≡ place_by image g l p f node x o Taken
+slot_placed image g l p f node x o NoSlot n = absurd (n refl)
+slot_placed image g l p f node x None _ n = refl
+slot_placed image g l p f node x (Some word) _ n = refl
 
 -- An edit: a set-up of which the code knows, its pieces placed, and what is known of the tables.
 pub record PlacedEdit : Type 0 where
@@ -152,10 +112,6 @@ module _ (edit : PlacedEdit) where
       → visited_at site node x ≡ slice_index p.at (image_number g.text (graph_in g) node word)
   visited_word node x word e n = rw (e, n)
 
-  pub visited_slot : (node : Node) (x : Point) (word : ℕ) → word_at g.text x.pc ≡ Some word → x.slot ≢ NoSlot
-      → visited_at site node x ≡ slice_index p.at (slot_piece g l node x)
-  visited_slot node x word e n = rw e (at_slot l.image g l p f node x word x.slot n)
-
   pub entered_word : (node : Node) (x : Point) (word : ℕ) → word_at g.text x.pc ≡ Some word → x.slot ≡ NoSlot
       → entered_at site node x ≡ slice_index p.at (enter_number g.text (graph_in g) node word)
   entered_word node x word e n = rw (e, n)
@@ -166,11 +122,7 @@ module _ (edit : PlacedEdit) where
 
   pub entered_slot : (node : Node) (x : Point) (word : ℕ) → word_at g.text x.pc ≡ Some word → x.slot ≢ NoSlot
       → entered_at site node x ≡ slice_index p.at (slot_piece g l node x)
-  entered_slot node x word e n = rw e (at_slot l.enter g l p f node x word x.slot n)
-
-  entered_off : (node : Node) (x : Point) → word_at g.text x.pc ≡ None → x.slot ≢ NoSlot
-      → entered_at site node x ≡ f.table.base
-  entered_off node x e n = rw e (off_slot l.enter g l p f node x x.slot n)
+  entered_slot node x word e n = rw e (slot_placed l.enter g l p f node x (Some word) x.slot n)
 
   -- a piece that is visited begins with the Mark of its word
   abbrev pub marked_at : (node : Node) (x : Point) (word : ℕ) → word_at g.text x.pc ≡ Some word → (piece : ℕ)
@@ -178,15 +130,10 @@ module _ (edit : PlacedEdit) where
       → slice_get shapes piece ≡ Some (marked (visit_of g.text (graph_in g) node word)
       (head (record { 0 = address_of g.text word }) (slice_index g.text.words word)) edges exit)
       → IsMarked site node x head edges exit
-  marked_at node x word at piece here head edges exit shape = record {
-    piece = piece;
-    here = here;
-    address = record { 0 = address_of g.text word };
-    original = sym (word_at-some g.text x.pc word at).is;
-    word = slice_index g.text.words word;
-    is_word = word_is g x word at;
-    shape = shape;
-  }
+  marked_at node x word at piece here head edges exit shape =
+      let original = sym (word_at-some g.text x.pc word at).is in
+      let is = word_is g x word at in
+      record { piece = _; here = here; address = _; original = original; word = _; is_word = is; shape = shape }
 
   -- where an exit leads that goes on at an address, at a node
   abbrev pub GoesThere : Node → ℕ → Exit → Type 0
@@ -221,9 +168,8 @@ module _ (edit : PlacedEdit) where
       let inside = (word_at-some g.text x.pc word at).within in
       let cut = cut_in g is in
       let low : word < b.words = omega (arith, inside, cut.words) in
-      let held_there = held ∙ ap (node_of b) at in
-      let home = held_there ∙ node_is b word low in
-      let has = stands_at g is f.table.base f.cases.base node word inside held_there there in
+      let home = held ∙ ap (node_of b) at ∙ node_is b word low in
+      let has = has_image g.text (graph_in g) (facts g is) node word home there in
       search
 
   -- ---- in a slot
@@ -241,12 +187,6 @@ module _ (edit : PlacedEdit) where
   on_its_way node x _ e n m =
       subst (λ (s : Slot). IsOnItsWay g.text (graph_in g) node x (way_of (instr_at g.text (x.pc - 4)) s)) (sym e) m
 
-  way_to_plain : (node : Node) (kind : EdgeKind) (next : ℕ)
-      → (same_kind kind kinds.Out ≡ true → has_cases g.switches node ≡ false)
-      → way_to g.text (graph_in g) node kind next ≡ by_kind kind
-  way_to_plain node kinds.Out next h = rw (h refl)
-  way_to_plain node _ next h = refl
-
 -- A point in the slot of a transfer, on the way of its edge.
 pub record InSlot : Type 0 where
   pub edit : PlacedEdit
@@ -257,13 +197,8 @@ pub record InSlot : Type 0 where
 
 abbrev pub slotted : (edit : PlacedEdit) (node : Node) (x : Point) (s : Slot) → x.slot ≡ s → s ≢ NoSlot
     → MatchesBy edit.g.text (graph_in edit.g) node x s → InSlot
-slotted edit node x s e not m = record {
-  edit = edit;
-  node = node;
-  x = x;
-  not = λ n. not (sym e ∙ n);
-  way = on_its_way edit node x s e not m;
-}
+slotted edit node x s e not m =
+    record { edit = edit; node = node; x = x; not = λ n. not (sym e ∙ n); way = on_its_way edit node x s e not m }
 
 -- at a word of the text
 pub record AtSlot : Type 0 where
@@ -292,8 +227,7 @@ module _ (in_slot : InSlot) where
       by : (s : Carried) → way.edge.slot ≡ s → IsCarried g.text s x.pc → s ≡ slot_for (word_at g.text x.pc)
       by carried.Nothing e c = absurd c
       by carried.Off e c =
-          rw (c, word_at-address g.text (length g.text.words), le-ltb (length g.text.words) (length g.text.words) (omega arith))
-          refl
+          let n = length g.text.words in rw (c, word_at-address g.text n, le-ltb n n (omega arith))
       by (carried.Word w) e c =
           let low : w.0 < length g.text.words =
           omega (arith, subst (IsSlotIn blocks) e (slot_in g is way.number way.edge way.is), (cut_in g is).words) in
@@ -303,39 +237,37 @@ module _ (in_slot : InSlot) where
   pub off : word_at g.text x.pc ≡ None → way.edge.slot ≡ carried.Off
   off none = carries ∙ rw none
 
-  pub off_address : word_at g.text x.pc ≡ None → x.pc ≡ address_of g.text (length g.text.words)
-  off_address none = subst (λ (s : Carried). IsCarried g.text s x.pc) (off none) way.carries
-
   -- at a word
   pub on : (slot : ℕ) → word_at g.text x.pc ≡ Some slot → way.edge.slot ≡ carried.Word (record { 0 = slot })
   on slot at = carries ∙ rw at
 
   -- the number of the piece at which its slot stands
-  piece_along : slot_piece g (l edit) node x
-      ≡ along_number g.text (graph_in g) way.number (Some way.edge) x.npc
+  piece_along : slot_piece g (l edit) node x ≡ along_number g.text (graph_in g) way.number (Some way.edge) x.npc
   piece_along = rw (way.only, way.is)
 
   -- ---- an edge of which the node has one
 
   module _ (caseless : same_kind (way_in edit x) kinds.Out ≡ true → has_cases g.switches node ≡ false) where
     pub way_is : way_now edit node x ≡ by_kind (way_in edit x)
-    way_is = way_to_plain edit node (way_in edit x) x.npc caseless
+    way_is = by (way_in edit x) caseless
+      where
+        by : (kind : EdgeKind) → (same_kind kind kinds.Out ≡ true → has_cases g.switches node ≡ false)
+            → way_to g.text (graph_in g) node kind x.npc ≡ by_kind kind
+        by kinds.Out h = rw (h refl)
+        by _ h = refl
 
     pub kind_is : way.edge.kind ≡ way_in edit x
     kind_is = edge_is.same ∙ ap (λ (w : WayOut). w.kind) way_is
 
-    own : IsTransfersWay (way_in edit x)
-    own = way_is_own (instr_at g.text (x.pc - 4)) x.slot
-
     pub plain_piece_is : slot_piece g (l edit) node x ≡ way_piece g.text (graph_in g) way.number
-    plain_piece_is = piece_along ∙ rw (kind_is, own.caseless)
+    plain_piece_is = piece_along ∙ rw (kind_is, (way_is_own (instr_at g.text (x.pc - 4)) x.slot).caseless)
 
     pub plain_shape : (to : Carried) → way.edge.slot ≡ to
         → slice_get (shapes edit) (way_piece g.text (graph_in g) way.number)
         ≡ Some (way_by g.text (graph_in g) f.table.base way.number way.edge (first_word (graph_in g) way.edge.to) to)
     plain_shape to e =
         shape_along g is f.table.base f.cases.base node (way_now edit node x) way.number way.edge edge_is
-        (subst IsTransfersWay (sym (ap (λ (w : WayOut). w.kind) way_is)) own) to e
+        (subst IsTransfersWay (sym (ap (λ (w : WayOut). w.kind) way_is)) (way_is_own _ _)) to e
 
   -- ---- a Case edge
 
@@ -363,44 +295,39 @@ module _ (in_slot : InSlot) where
       where
         by : (n : Node) → node ≡ n → IsTarget g.text g.switches n x.npc → has_cases g.switches n ≡ true → IsTargetOf
         by (Block k) same to has =
-            let found = among_targets g.switches k.0 to.0 to.2 in
-            let one = jump_numbered g.text blocks g.switches k.0 has in
-            let equal : found.o ≡ one.1 = is.cased.one found.number one.0 found.o one.1 found.is one.3
-            (found.itself ∙ sym one.4) in
+            let its = jump_numbered g.text blocks g.switches k.0 has in
+            let o = its.1 in
+            let at = get_or_from_slice_get g.switches its.0 o in
+            let one = (are_open g.text is.graph.given is.graph.entry is.text).one in
+            let all = targets_at g.switches (rw (ap (λ (z : Graph). z.opens) is.graph.is) one) k.0 its.0 o
+            (slice_get_within g.switches its.0 o its.3) (λ d. rw (at d its.3) its.4) in
+            let found = placed (λ (x : ℕ). x == to.0) o.targets (rw (all, at o its.3) at to.2) in
             record {
-              k = one.0;
-              o = one.1;
-              among = one.3;
-              itself = same ∙ ap block (sym one.4);
-              numbered = one.2;
-              entry = found.entry;
+              k = its.0;
+              o = o;
+              among = its.3;
+              itself = same ∙ ap block (sym its.4);
+              numbered = its.2;
+              entry = found.number;
               word = to.0;
-              at = ap (λ (o : Open). slice_get o.targets found.entry) (sym equal) ∙ found.at;
+              at = found.is ∙ ap (λ (z : ℕ). Some z) (eqb-true found.item to.0 found.passes);
               goes = to.1;
             }
         by _ same to has = absurd to
 
     pub case_piece_is : slot_piece g (l edit) node x ≡ case_piece g.text (graph_in g) target.o.block target.word
     case_piece_is =
-        piece_along
-        ∙ ap (λ (t : Bool). if t then along_case g.text (graph_in g) way.edge.from way.number (word_at g.text x.npc)
-        else way_piece g.text (graph_in g) way.number)
-        (ap (λ (k : EdgeKind). same_kind k kinds.Case) case_kind)
-        ∙ ap (λ (n : Node). along_case g.text (graph_in g) n way.number (word_at g.text x.npc))
-        (edge_is.leaves ∙ target.itself)
-        ∙ ap (along_case g.text (graph_in g) (block target.o.block) way.number) target.goes
+        (rw (case_kind, edge_is.leaves, target.goes) at piece_along)
+        ∙ ap (λ (n : Node). along_case g.text (graph_in g) n way.number (Some target.word)) target.itself
 
     pub case_shape : (to : Carried) → way.edge.slot ≡ to
         → slice_get (shapes edit) (case_piece g.text (graph_in g) target.o.block target.word)
         ≡ Some (way_by g.text (graph_in g) f.table.base way.number way.edge target.word to)
     case_shape to e =
         shape_case g is f.table.base f.cases.base target.k target.o target.among target.entry target.word
-        target.at way.number way.edge
-        (record {
-          only = ap (λ (n : Node). edge_along (graph_in g) n
-              (by_case (lands (graph_in g) (Some target.word)))) (sym target.itself)
-              ∙ ap (λ (o : Option ℕ). edge_along (graph_in g) node (by_case (lands (graph_in g) o))) (sym target.goes)
-              ∙ ap (edge_along (graph_in g) node) (sym case_way) ∙ edge_is.only;
+        target.at way.number way.edge (record {
+          only = ap (λ (n : Node). edge_along (graph_in g) n (by_case (lands (graph_in g) (Some target.word))))
+              (sym target.itself) ∙ (rw (case_way, target.goes) at edge_is.only);
           found = edge_is.found;
           leaves = edge_is.leaves ∙ target.itself;
           same = case_kind;
@@ -409,39 +336,28 @@ module _ (in_slot : InSlot) where
 
   -- ---- into a slot
 
-  table_far : IsJumpTarget f.table.base
-  table_far = let table : IsTable f.table = whole in (omega arith, omega arith)
-
   -- the way of the edge on which a slot is run leads to where that is visited
   pub enters : (same_kind (way_in edit x) kinds.Out ≡ true → has_cases g.switches node ≡ false)
       → (kind : EdgeKind) → way_in edit x ≡ kind
       → LeadsTo (site edit) (record { 0 = way_out g.text (graph_in g) node kind }) [] (word_at g.text x.pc)
       (entered_at (site edit) node x)
-  enters caseless kind same = by (word_at g.text x.pc) refl
+  enters caseless kind same =
+      rw (slot_placed (l edit).enter g (l edit) p f node x (word_at g.text x.pc) x.slot not) (by (word_at g.text x.pc) refl)
     where
       number : way_out g.text (graph_in g) node kind ≡ way_piece g.text (graph_in g) way.number
-      number =
-          rw (← same)
-          (ap (λ (w : WayOut). first_way g.text (graph_in g) (edge_along (graph_in g) node w)) (sym (way_is caseless))
-          ∙ rw way.only)
+      number = rw (← same, rw (way_is caseless) at way.only)
 
       by : (o : Option ℕ) → word_at g.text x.pc ≡ o
-          → LeadsTo (site edit) (record { 0 = way_out g.text (graph_in g) node kind }) [] (word_at g.text x.pc)
-          (entered_at (site edit) node x)
-      by (Some word) e =
-          inl (
-            refl,
-            ap (slice_index p.at) (number ∙ sym (plain_piece_is caseless))
-                ∙ sym (entered_slot edit node x word e not),
-          )
+          → LeadsTo (site edit) (record { 0 = way_out g.text (graph_in g) node kind }) [] o
+          (place_by (l edit).enter g (l edit) p f node x o Taken)
+      by (Some word) e = inl (refl, ap (slice_index p.at) (number ∙ sym (plain_piece_is caseless)))
       by None e =
-          subst (LeadsTo (site edit) (record { 0 = way_out g.text (graph_in g) node kind }) [] (word_at g.text x.pc))
-          (sym (entered_off edit node x e not))
-          (inr (
+          let table : IsTable f.table = whole in
+          inr (
             leaves_to f.table.base,
             ap (slice_get (shapes edit)) number ∙ plain_shape caseless carried.Off (off e),
-            (e, table_far, refl),
-          ))
+            (refl, (omega arith, omega arith), refl),
+          )
 
 module _ (visit : AtWord) where
   open visit use {edit, node, x, word, edit.{g, codes, is, f}}
@@ -450,7 +366,8 @@ module _ (visit : AtWord) where
       → slice_get (shapes edit) (image_number g.text (graph_in g) node word)
       ≡ Some (image_by g.text (graph_in g) (jumps_at g.text f.table.base) f.cases.base
       (visit_of g.text (graph_in g) node word) node word instr)
-  image_shape instr e = image_at g is f.table.base f.cases.base node word visit.inside visit.has ∙ rw e
+  image_shape instr e =
+      image_at g.text (graph_in g) (facts g is) f.table.base f.cases.base node word visit.inside visit.has ∙ rw e
 
   -- its piece begins with its Mark
   abbrev pub at_image : (head : Addr → ℕ → Head) (edges : List ℕ) (exit : Exit)

@@ -8,6 +8,5 @@ invariant-loop-word l = record {
   long : length l.values ≡ 32;
   left : find (loads_at l.text l.initial.values l.approach l.table)
       (range_with_len l.approach.first (l.approach.jump - l.approach.first))
-      ≡ find (loads_at l.text l.initial.values l.approach l.table)
-      (range_with_len l.word (l.approach.jump - l.word));
+      ≡ find (loads_at l.text l.initial.values l.approach l.table) (range_with_len l.word (l.approach.jump - l.word));
 }

@@ -3,12 +3,6 @@ use Rattle.image_code.proofs.Pushed.{flat_count}
 use Rattle.image_code.proofs.lookups.landing_count.Goals as goal
 
 pub loop-block-preserved : goal.loop-block-preserved
-loop-block-preserved c = record {
-  count = omega (
-    arith,
-    c.loop-block.invariant.count,
-    c.landings_at-count.ensures.count,
-    flat_count (landings_of c.args.graph.now.opens) c.loop-block.block,
-  );
-  few = omega (arith, c.loop-block.invariant.few, c.landings_at-count.ensures.few);
-}
+loop-block-preserved c =
+    let more = flat_count (landings_of c.args.graph.now.opens) c.loop-block.block in
+    omega (arith, c.landings_at-count.ensures)

@@ -9,12 +9,6 @@ mark_first (Some (visit, head)) rest =
 
 pub returns : goal.returns
 returns c =
-    rw (
-      c.in_ok-push_exit.ensures,
-      c.in_ok-push_words.ensures,
-      c.in_ok-push_mark.ensures,
-      c.in_ok-items.ensures.items,
-      c.code_on-code.ensures,
-      append_assoc (mark_items c.shape.inside.mark []),
-    )
-    (mark_first c.shape.inside.mark _ ∙ ap (items_of (code_at c.args.codes.now)) c.shape.view_is)
+    rw (c.in_ok-push_exit.ensures, c.in_ok-push_words.ensures, c.in_ok-push_mark.ensures, c.in_ok-items.ensures.items)
+    (rw (c.code_on-code.ensures, append_assoc (mark_items c.shape.inside.mark []))
+    (mark_first c.shape.inside.mark _ ∙ ap (items_of (code_at c.args.codes.now)) c.shape.view_is))

@@ -3,4 +3,4 @@ use Rattle.image_code.proofs.switches.first_entries.Given as goal
 
 abbrev pub invariant-loop-entry : goal.invariant-loop-entry
 invariant-loop-entry l =
-    (word : ℕ) → get nat_eq l.places word ≡ position (λ t. t == word) (map (λ w. w.0) (take l.entry l.targets))
+    (word : ℕ) → get nat_eq l.places word ≡ position (λ t. t == word) (take l.entry (map (λ w. w.0) l.targets))

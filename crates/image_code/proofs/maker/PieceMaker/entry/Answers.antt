@@ -1,18 +1,15 @@
-use Rattle.image_code.proofs.Common.{length, ◌∙◌, first_entry}
-use Rattle.image_code.proofs.Found.{number_is, number_within}
+use Rattle.image_code.proofs.Common.{◌∙◌, ◌+◌, length, arith, length-below, length-map, le_prop}
+use Rattle.image_code.proofs.Pushed.{at_below}
+use Rattle.image_code.proofs.Sources.{known, known_number}
 use Rattle.image_code.proofs.maker.PieceMaker.entry.Goals as goal
 
 pub number_at-requires : goal.number_at-requires
-number_at-requires c =
-    let maker = c.args.self.now in
-    record {
-      place = number_within maker.found (first_entry maker.text.now maker.graph.now) (length maker.graph.now.opens)
-          c.args.number c.deref.result.now (λ found. c.deref.ensures.value ∙ found.lookups.entries) c.requires.number;
-    }
+number_at-requires c = record {
+  place = known c.args.self.now.found le_prop (λ _ l.
+      rw (c.deref.ensures.value, l.entries, length-map, length-below) (omega arith));
+}
 
 pub returns : goal.returns
 returns c =
-    let maker = c.args.self.now in
-    c.number_at.ensures
-    ∙ number_is maker.found (first_entry maker.text.now maker.graph.now) (length maker.graph.now.opens) c.args.number
-    c.deref.result.now (λ found. c.deref.ensures.value ∙ found.lookups.entries) c.requires.number
+    c.number_at.ensures ∙ known_number c.args.self.now.found (λ _ l. rw (c.deref.ensures.value, l.entries)
+    (at_below _ (length c.args.self.now.graph.now.opens + 1) c.args.number (omega arith)))

@@ -1,9 +1,5 @@
-use Rattle.image_code.proofs.Common.{Coded-set, coded_list, coded_ℕ, ∥∥₁_elim}
-use Rattle.image_code.proofs.EdgeTables.{leaving_is}
+use Rattle.image_code.proofs.EdgeTables.{edge_is}
 use Rattle.image_code.proofs.maker.PieceMaker.leaving.Goals as goal
 
 pub returns : goal.returns
-returns c =
-    ∥∥₁_elim c.args.self.now.found (Coded-set (coded_list coded_ℕ) _ _) (λ found.
-    leaving_is c.args.self.now.graph.now found.source.is_graph c.args.self.now.lookups.now.edges.items found.lookups.edges
-    c.args.node c.requires.node c.edge_at.result c.args.kind c.requires.kind c.edge_at.ensures)
+returns c = rw c.requires.kind at (edge_is c.args.self.now.found _ c.requires.node c.args.kind _ c.edge_at.ensures)
