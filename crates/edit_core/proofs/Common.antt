@@ -1,5 +1,5 @@
 -- The names that more than one proof cites, of this crate and of crates below, passed on from one place. Declares nothing.
-pub use Rattle.std.proofs.Common.{All, Bool, List, None, Option, Some, [], ap, append-nil, arith, cond, drop, false, get_or, if◌then◌else◌, inl, inr, length, length-append, map, min, nat_eq, nat_le, nat_lt, not, refl, replicate, slice_index, subst, suc, sym, take, true, zero, ℕ, ◌%◌, ◌&&◌, ◌*◌, ◌++◌, ◌+◌, ◌-◌, ◌<◌, ◌==◌, ◌^◌, ◌∙◌, ◌∷◌, ◌≡◌, ◌≢◌, ◌≤◌, ◌⊎◌, ◌/◌, ◌||◌, filter, Err, Contains, position, max}
+pub use Rattle.std.proofs.Common.{All, Bool, List, None, Option, Some, [], ap, append-nil, arith, cond, drop, false, get_or, if◌then◌else◌, inl, inr, length, length-append, map, min, nat_eq, nat_le, nat_lt, not, refl, replicate, slice_index, subst, suc, sym, take, true, zero, ℕ, ◌%◌, ◌&&◌, ◌*◌, ◌++◌, ◌+◌, ◌-◌, ◌<◌, ◌==◌, ◌^◌, ◌∙◌, ◌∷◌, ◌≡◌, ◌≢◌, ◌≤◌, ◌⊎◌, filter, Err, Contains, position, max}
 pub use Rattle.std.specs.Prelude.{slice_get, bit_and}
 pub use Rattle.addr_translate.specs.Halves.{IsHalvesOf, halves_size, found_in}
 pub use Rattle.addr_translate.specs.Lookup.{TableAt}
@@ -10,7 +10,6 @@ pub use Rattle.byteorder.specs.Numbers.{big_number-reads_back, length-bytes_high
 pub use Rattle.cfg_blocks.proofs.Targets.{word_at-some}
 pub use Rattle.cfg_blocks.specs.Blocks.{Blocks, below, blocks_of, holding_of, is_among, last_word, end_of}
 pub use Rattle.cfg_blocks.specs.Code.{AreFirsts, IsAscending}
-pub use Rattle.cfg_blocks.specs.Entries.{ways_from}
 unfoldable pub use Rattle.cfg_blocks.specs.Entries.{entered_of}
 pub use Rattle.cfg_blocks.specs.Marks.{numbers}
 pub use Rattle.cfg_blocks.specs.declared.EdgeKind.{EdgeKind}
@@ -30,21 +29,20 @@ pub use Rattle.cfg_walk.proofs.Holding.{first_held, in_held}
 pub use Rattle.cfg_walk.proofs.Leaving.{node_is}
 pub use Rattle.cfg_walk.proofs.Lists.{Each, each, each-append, each-then, each-below, each-flat_map, each-map, each_at}
 pub use Rattle.cfg_walk.proofs.Walks.{live_before, lived_to, walks_match}
-pub use Rattle.cfg_walk.specs.Matches.{BeginsAt, FetchesOnly, AreOpen, JumpsGoByCase}
+pub use Rattle.cfg_walk.specs.Matches.{BeginsAt, FetchesOnly}
 pub use Rattle.cfg_walk.specs.Walk.{Point, goes_on_at, gone, gone_in, instr_at, node_after, point_of, unless_ended}
 unfoldable pub use Rattle.cfg_walk.specs.Walk.{end_of_walk}
-pub use Rattle.code_runs.specs.StoredWords.{word_in}
 unfoldable pub use Rattle.code_runs.specs.StoredWords.{memory_word}
-pub use Rattle.edit_core.specs.Code.{AsksOf, CountsEdges, EditsAreUntouched, EditsCrashAlike, EditsDoTheSame, GrantedRunsAreAlike, IsEdited}
-pub use Rattle.edit_core.specs.Cost.{is_ld, IsWithinBound, short_bound, StoresLittle, TakesFewSteps}
+pub use Rattle.edit_core.specs.Code.{EditsAreUntouched, EditsCrashAlike, EditsDoTheSame, GrantedRunsAreAlike, IsEdited}
+pub use Rattle.edit_core.specs.Cost.{is_ld, IsWithinBound, short_bound}
 pub use Rattle.edit_core.specs.Dead.{AreDead}
-pub use Rattle.edit_core.specs.Faithful.{AreCounted, cell_noted, editor_page, HasGraph, HasPages, holds_cells, IsFaithful, IsInRoom, IsPlace, note_edge, note_edges, note_edges as note_edges_of, note_of, page_size, tool_number, word_mapped}
+pub use Rattle.edit_core.specs.Faithful.{cell_noted, editor_page, HasGraph, HasPages, IsFaithful, IsInRoom, IsPlace, note_edge, note_edges, note_edges as note_edges_of, note_of, page_size, tool_number, word_mapped}
 pub use Rattle.edit_core.specs.Private.{AreInside, AreLaid, AreMade, case_key, count_of, entries_with, HasRoom, is_entry, IsBuilt, IsViewOf, placement_in, plan_of, same_key}
-pub use Rattle.edit_core.specs.Runs.{AreTogether, CameFrom, GoesByTable, instr_in, JumpsGoByTable, KeepsLoaded, limits_in, Linked, RunFacts, Spares}
-pub use Rattle.edit_core.specs.RunsAlike.{AreRunsAlike, edit_of, EndsAtNode, ForEachRun, IsAnswered, IsStop, TellsStep, visits_by}
+pub use Rattle.edit_core.specs.Runs.{AreTogether, GoesByTable, instr_in, JumpsGoByTable, KeepsLoaded, limits_in, Linked, RunFacts, Spares}
+pub use Rattle.edit_core.specs.RunsAlike.{EndsAtNode, IsStop, TellsStep, visits_by}
 pub use Rattle.edit_core.specs.Taken.{bound_in, bound_of, CanEdit, counted_on, operations_on}
 pub use Rattle.edit_core.specs.Whole.{Answered, EditsAnswer, KeepsWhatLives, KeptIn}
-pub use Rattle.edit_core.specs.Written.{addr, AreTablesOf, case_places, cases_at, cases_table, cells_at, cells_base, cells_size, code_base, code_segment, entry_number, if_any, is_behind, is_off, IsEdit, IsWorkable, landings_of, off_range, off_ranges, page_segment, second_table, segment_noted, table_after, table_at, tables_size, TablesMatch, whole_pages}
+pub use Rattle.edit_core.specs.Written.{addr, AreTablesOf, case_places, cases_at, cases_table, cells_at, cells_base, cells_size, code_base, code_segment, if_any, is_behind, is_off, IsEdit, IsWorkable, landings_of, off_range, off_ranges, page_segment, second_table, segment_noted, table_after, table_at, tables_size, TablesMatch, whole_pages}
 unfoldable pub use Rattle.edit_core.specs.Written.{IsTheEdit}
 pub use Rattle.edit_core.specs.declared.requests.CaseKey.{CaseKey}
 pub use Rattle.edit_core.specs.declared.requests.Request.{Request}
@@ -56,7 +54,7 @@ pub use Rattle.eel_base.specs.declared.numbers.WordNo.{WordNo}
 pub use Rattle.elf32_sparc.proofs.Accepted.{accepted, Accepted, IsFit, has_text, text_is_fit}
 pub use Rattle.elf32_sparc.proofs.Images.{accepted-program}
 pub use Rattle.elf32_sparc.proofs.Loadable.{loadable_file, loads_inside}
-pub use Rattle.elf32_sparc.specs.FileFault.{fault, is_last_page, leaves_room, load_fault, has_bytes_outside}
+pub use Rattle.elf32_sparc.specs.FileFault.{fault, is_last_page, leaves_room, load_fault}
 unfoldable pub use Rattle.elf32_sparc.specs.FileFault.{has_memory_outside_a_run}
 pub use Rattle.elf32_sparc.specs.Header.{has_flag, loadable, program_headers, text_header}
 pub use Rattle.elf32_sparc.specs.Image.{Program, highest_end, segment_of, segment_end}
@@ -80,16 +78,16 @@ pub use Rattle.image_code.proofs.Positions.{any_at, contains, found_in_range}
 pub use Rattle.image_code.specs.Copies.{is_at, copies_of, targets_from}
 pub use Rattle.image_code.specs.Fit.{AreFit, PiecesFit, PlacesSay, operations_from, operations_in, AreShort, is_mark, marks_in}
 pub use Rattle.image_code.specs.Graphs.{IsGraphOf, opens_in, case_table}
-pub use Rattle.image_code.specs.Images.{AtVisit, EditorData, HasTable, IsEditorData, IsTableIn, IsBeside, AreNoted, HasCells, IsPlaced, Pieces}
-pub use Rattle.image_code.specs.Labels.{case_numbers, or_zero, Foreign, number_of as piece_number, cases_of, enter_number, image_number, switch_at, foreign_number}
+pub use Rattle.image_code.specs.Images.{AtVisit, EditorData, HasTable, IsEditorData, IsTableIn, IsBeside, IsPlaced, Pieces}
+pub use Rattle.image_code.specs.Labels.{case_numbers, or_zero, Foreign, number_of as piece_number, cases_of, enter_number, image_number, foreign_number}
 pub use Rattle.image_code.specs.Made.{lands_at, piece_list, AreCasesFor, jumps_at, shape_list, IsOffNoted, IsTableFor, PiecesMakeImages, pieces_in}
 pub use Rattle.image_code.specs.Outside.{IsOffPages}
-pub use Rattle.image_code.specs.Simulates.{CaseTable, EditSetup, IsAtWord, IsNoLoad, IsThere, edit_in, graph_in, number_in, IsChosen, KeepsAddress, Steps, IsFollowedBy, MatchesIn, StepsOn, at_point, does_at, word_of, IsKept, Simulates}
+pub use Rattle.image_code.specs.Simulates.{CaseTable, EditSetup, IsAtWord, IsNoLoad, IsThere, edit_in, graph_in, number_in, KeepsAddress, MatchesIn, StepsOn, at_point, does_at, word_of, IsKept}
 unfoldable pub use Rattle.image_code.specs.SnippetWords.{codes_of}
 pub use Rattle.image_code.specs.Store.{cells_in, snippet_on, store_of, updates}
 pub use Rattle.indexmap.specs.IndexMap.{get}
 pub use Rattle.layout.proofs.Needed.{long_is_enough, short_is_enough}
-pub use Rattle.layout.specs.Laid.{Ascend, HasShortForms, IsLaid, IsRangeOf, Placement, item_at, long_bytes, range_in, IsWordAt, ArePieces, item_in, items_in, range_of, open_in, end_from, is_end}
+pub use Rattle.layout.specs.Laid.{Ascend, HasShortForms, IsLaid, IsRangeOf, Placement, item_at, long_bytes, range_in, IsWordAt, ArePieces, item_in, items_in, range_of, open_in, end_from}
 pub use Rattle.layout.specs.declared.items.Item.{Item}
 pub use Rattle.liveness.specs.Live.{IsLiveOn, edge_at, is_call_or_jump, is_outside, is_unknown, named_on}
 pub use Rattle.liveness.specs.Sets.{dead_on, AreLive, Live, edge_set}
@@ -102,8 +100,8 @@ pub use Rattle.snippet_code.specs.Cells.{cell_at, words_at}
 pub use Rattle.snippets.specs.Cells.{WorksBelow, WorksIn, named_by, read_by, update}
 pub use Rattle.snippets.specs.Ops.{cells_end, cell_of}
 pub use Rattle.snippets.specs.declared.snippet.Op.{Op}
-pub use Rattle.snippets.specs.declared.snippet.Op.TheVariants.{Count, Add, Put, Keep, Top, Log}
-pub use Rattle.std.proofs.Math.Seq.{drop-append-add, drop-append_seam, ext_get_or, take-append_seam}
+pub use Rattle.snippets.specs.declared.snippet.Op.TheVariants.{Count, Log}
+pub use Rattle.std.proofs.Math.Seq.{drop-append_seam, ext_get_or, take-append_seam}
 pub use Rattle.std.proofs.lemmas.Bool.{and_from, and_parts, cases_Bool, cases_lt, cond_both, eq-eqb, eqb-true, false_from_ne_true, false≢true, le-leb, le-ltb, lt-leb, lt-ltb, or_left, or_parts, or_right, ne_eqb, or_cases, cases_eq}
 pub use Rattle.std.proofs.lemmas.Bool.Decides.{nat_tests}
 pub use Rattle.std.proofs.lemmas.Grind.{get_or_default_zero}
@@ -116,17 +114,17 @@ pub use Rattle.std.proofs.lemmas.Option.{get_or_from_slice_get, slice_get_within
 pub use Rattle.std.proofs.lemmas.Simd.{map-map}
 pub use Rattle.std.specs.Int.{from_be_bytes, w32}
 pub use Rattle.std.specs.List.{count_by, find, flat_map, list_any, range_with_len, sum_by, fold}
-pub use Rattle.std.specs.Option.{option_map, option_or, option_map_or, option_to_list}
-pub use Rattle.switch_runs.specs.Cases.{IsOpenSwitch, LoadsEntry}
+pub use Rattle.std.specs.Option.{option_map, option_map_or, option_to_list}
+pub use Rattle.switch_runs.specs.Cases.{LoadsEntry}
 pub use Rattle.switch_runs.specs.Held.{HoldsText}
 pub use Rattle.tool_kit.specs.Good.{IsGood}
 pub use Rattle.tool_kit.specs.Plans.{AreCounters, Plan}
 pub use Rattle.tool_kit.specs.declared.edge_ref.ToolKind.{ToolKind}
 pub use Rattle.two_runs.proofs.Stays.{step_stays, ended_stays}
-pub use Rattle.two_runs.specs.Follows.{IsFollowed, IsWay}
+pub use Rattle.two_runs.specs.Follows.{IsWay}
 pub use Rattle.two_runs.specs.Needed.{IsUntouched, WritesIn}
 pub use Rattle.two_runs.specs.TwoRuns.{Answers, Ends, GoesOn, IsLeast, HasSameOutside, Matches, MatchesBy}
-pub use Rattle.two_runs.specs.Visits.{if_live, in_pages, own_trail, pages_of, trail_of, visit_of, visited, page_of, as_list}
+pub use Rattle.two_runs.specs.Visits.{own_trail, pages_of, trail_of, visit_of, page_of}
 pub use Rattle.v8_decode.proofs.Marks.{has-members_at, same_sets, set_of-members}
 pub use Rattle.v8_decode.proofs.Members.{has-every_part, has-members, is_same-self}
 pub use Rattle.v8_decode.specs.Parts.{has, is_member, set_of}

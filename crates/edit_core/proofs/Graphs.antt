@@ -1,5 +1,5 @@
 -- The graph of an original, with its open switches.
-use Rattle.edit_core.proofs.Common.{flat_map, ◌≡◌, ℕ, ◌+◌, ◌-◌, ◌*◌, ◌<◌, ◌≤◌, ◌==◌, inl, inr, true, false, Bool, List, [], ◌∷◌, length, length-append, refl, ap, sym, ◌∙◌, arith, slice_index, list_any, sum_by, cases_Bool, eq-eqb, eqb-true, false_from_ne_true, false≢true, le-ltb, lt-ltb, length-map, sum_by-cons, Words, IsText, image_of, Blocks, blocks_of, holding_of, is_among, last_word, entered_of, Node, Block, Landed, X, Graph, edges_in, IsEdgeIn, IsGraph, IsNodeIn, is_node, node_number, Open, is_copied, jumps_in, cut, Each, each-then, IsGraphOf, opens_in, case_numbers, text_graph, Plan, or_cases, compares_in, IsCut, entry_leads, first_held, IsOpenSwitch, cases_of, are_open, is_list}
+use Rattle.edit_core.proofs.Common.{flat_map, ◌≡◌, ℕ, ◌+◌, ◌-◌, ◌*◌, ◌<◌, ◌≤◌, ◌==◌, inl, inr, true, false, Bool, List, [], ◌∷◌, length, length-append, refl, ap, sym, ◌∙◌, arith, slice_index, list_any, sum_by, cases_Bool, eq-eqb, eqb-true, false_from_ne_true, false≢true, nat_tests, lt-ltb, length-map, sum_by-cons, Words, IsText, image_of, Blocks, blocks_of, holding_of, is_among, last_word, entered_of, Node, Block, Landed, X, Graph, edges_in, IsEdgeIn, IsGraph, IsNodeIn, is_node, node_number, Open, is_copied, jumps_in, cut, Each, IsGraphOf, opens_in, case_numbers, text_graph, Plan, or_cases, compares_in, IsCut, entry_leads, first_held, cases_of, are_open, is_list}
 use Rattle.cfg_normal.proofs.GraphFacts.{is_graph}
 use Rattle.switch_runs.proofs.About.{about}
 use Rattle.switch_runs.proofs.Opened.{opens_are}
@@ -13,19 +13,15 @@ pub record IsNumber (graph : Graph) (number : ℕ) : Type 0 where
   pub few : number ≤ 2 * length graph.blocks.firsts
   pub is : is_node graph number ≡ true
 
-first_number : (graph : Graph) (number : ℕ) → number ≤ length graph.blocks.firsts → is_node graph number ≡ true
-first_number graph number l =
-    rw (le-ltb (length graph.blocks.firsts) number l) refl
-
 pub number_of : (graph : Graph) (node : Node) → IsNodeIn graph.blocks graph.opens node
     → IsNumber graph (node_number graph node)
-number_of graph (Block k) l = record { few = omega (arith, l); is = first_number graph k.0 (omega (arith, l)) }
+number_of graph (Block k) l = record { few = omega (arith, l); is = grind (arith, nat_tests) }
 number_of graph (Landed k) l = record {
   few = omega (arith, l.0);
   is = let e : length graph.blocks.firsts + 1 + k.0 - (length graph.blocks.firsts + 1) ≡ k.0 = omega arith in
       rw (lt-ltb (length graph.blocks.firsts) (length graph.blocks.firsts + 1 + k.0) (omega arith), e) l.1;
 }
-number_of graph X l = record { few = omega arith; is = first_number graph (length graph.blocks.firsts) (omega arith) }
+number_of graph X l = record { few = omega arith; is = grind (arith, nat_tests) }
 
 module _ (text : Words) (graph : Graph) (is_text : IsText text) (h : IsGraphOf text graph) where
   pub graph_cut : IsCut text graph.blocks
@@ -54,41 +50,13 @@ module _ (text : Words) (graph : Graph) (is_text : IsText text) (h : IsGraphOf t
 
 -- ---- blocks of open switches
 
-record IsFound {A : Type 0} (p : A → Bool) (Q : A → Type 0) : Type 0 where
-  found : A
-  passes : p found ≡ true
-  is : Q found
-
-any_found : {A : Type 0} (p : A → Bool) (Q : A → Type 0) (xs : List A) → Each Q xs → list_any p xs ≡ true → IsFound p Q
-any_found p Q [] each any = absurd (cc)
-any_found p Q (x ∷ xs) each any = elim (cases_Bool (p x)) [
-  | inl e ↦ record { found = x; passes = e; is = each.0 }
-  | inr e ↦ any_found p Q xs each.1 (rw e at any)
+from_any : {A G : Type 0} (p : A → Bool) (Q : A → Type 0) (xs : List A) → Each Q xs → list_any p xs ≡ true
+    → ((x : A) → p x ≡ true → Q x → G) → G
+from_any p Q [] each any some = absurd (cc)
+from_any p Q (x ∷ xs) each any some = elim (cases_Bool (p x)) [
+  | inl e ↦ some x e each.0
+  | inr e ↦ from_any p Q xs each.1 (rw e at any) some
 ]
-
--- behind both blocks comes a word, and the program isn't entered at the jump's
-record IsInside (b : Blocks) (entry : ℕ) (o : Open) : Type 0 where
-  compare : last_word b.firsts b.words o.switch.compare.0 + 1 < b.words
-  jump : last_word b.firsts b.words o.block + 1 < b.words
-  apart : (slice_index b.firsts o.block == entry) ≡ false
-
-are_inside : (text : Words) (given : List ℕ) (entry : ℕ) → IsText text
-    → Each (IsInside (blocks_of text given) entry) (opens_in text given entry)
-unfolding entered_of
-are_inside text given entry is_text =
-    each-then (IsOpenSwitch text (entered_of text given) entry) (IsInside (blocks_of text given) entry)
-    (opens_in text given entry) inside (opens_are text given entry is_text)
-  where
-    inside : (o : Open) → IsOpenSwitch text (entered_of text given) entry o → IsInside (blocks_of text given) entry o
-    inside o is =
-        let a = about text given entry is_text o is in
-        let words = (cut text given is_text.some).words in
-        let jump = is.jump in
-        record {
-          compare = omega (arith, words, is.last, a.last);
-          jump = omega (arith, words, jump, a.jump);
-          apart = a.apart;
-        }
 
 module _ (text : Words) (given : List ℕ) (entry : ℕ) (is_text : IsText text) where
   abbrev its : Blocks
@@ -99,27 +67,30 @@ module _ (text : Words) (given : List ℕ) (entry : ℕ) (is_text : IsText text)
 
   -- behind the last word of a block that has a copy comes a word
   pub copied_inside : (block : ℕ) → is_copied opened block ≡ true → last_word its.firsts its.words block + 1 < its.words
-  copied_inside block copied = elim (or_cases (jumps_in opened block) (compares_in opened block) copied) [
-    | inl any ↦
-        let f = any_found (λ (o : Open). o.block == block) (IsInside its entry) opened (are_inside text given entry
-        is_text) any in
-        let same : f.found.block ≡ block = eqb-true f.found.block block f.passes in
-        rw same at f.is.jump
-    | inr any ↦
-        let f = any_found (λ (o : Open). o.switch.compare.0 == block) (IsInside its entry) opened
-        (are_inside text given entry is_text) any in
-        let same : f.found.switch.compare.0 ≡ block = eqb-true f.found.switch.compare.0 block f.passes in
-        rw same at f.is.compare
-  ]
+  unfolding entered_of
+  copied_inside block copied =
+      let words = (cut text given is_text.some).words in
+      let are = opens_are text given entry is_text in
+      elim (or_cases (jumps_in opened block) (compares_in opened block) copied) [
+        | inl any ↦ from_any (λ (o : Open). o.block == block) _ opened are any (λ o at is.
+            let a = about text given entry is_text o is in
+            let jump = is.jump in
+            let e : o.block ≡ block = eqb-true o.block block at in
+            rw (← e) (omega (arith, words, jump, a.jump)))
+        | inr any ↦ from_any (λ (o : Open). o.switch.compare.0 == block) _ opened are any (λ o at is.
+            let a = about text given entry is_text o is in
+            let last = is.last in
+            let e : o.switch.compare.0 ≡ block = eqb-true o.switch.compare.0 block at in
+            rw (← e) (omega (arith, words, last, a.last)))
+      ]
 
   -- the program is entered at the block of no open switch's jump
   pub entry_apart : is_among given entry ≡ true → entry < length text.words
       → jumps_in opened (holding_of its entry) ≡ false
+  unfolding entered_of
   entry_apart among low = false_from_ne_true (jumps_in opened (holding_of its entry)) (λ e.
-      let f = any_found (λ (o : Open). o.block == holding_of its entry) (IsInside its entry) opened
-      (are_inside text given entry is_text) e in
-      let same : f.found.block ≡ holding_of its entry = eqb-true f.found.block (holding_of its entry) f.passes in
-      let c = cut text given is_text.some in
+      from_any (λ (o : Open). o.block == holding_of its entry) _ opened (opens_are text given entry is_text) e (λ o at is.
       let begins : slice_index its.firsts (holding_of its entry) ≡ entry =
-      first_held its.words its.firsts c.firsts entry (entry_leads text given entry among low) in
-      absurd (false≢true (sym f.is.apart ∙ eq-eqb _ _ (ap (slice_index its.firsts) same ∙ begins))))
+      first_held its.words its.firsts (cut text given is_text.some).firsts entry (entry_leads text given entry among low) in
+      absurd (false≢true (sym (about text given entry is_text o is).apart
+      ∙ eq-eqb _ _ (ap (slice_index its.firsts) (eqb-true o.block (holding_of its entry) at) ∙ begins)))))

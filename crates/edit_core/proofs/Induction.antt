@@ -1,39 +1,22 @@
 -- The induction over the steps of the original, and whole runs.
-use Rattle.edit_core.proofs.Common.{◌≡◌, ◌≢◌, ℕ, zero, suc, ◌+◌, ◌-◌, ◌<◌, ◌≤◌, ◌⊎◌, inl, inr, Option, Some, None, List, ◌++◌, append-nil, refl, ap, sym, ◌∙◌, subst, arith, word_at, node_at, NoteRange, range_at, fetch_of, Span, AllApart, Ending, State, sum_of, run, run_puts, IsAmong, StateItem, Register, IsItem, IsSameAt, place_of, place_of-below, slice_get, WritesIn, IsUntouched, visit_of, pages_of, GoesOn, Ends, stays_ended, puts_nothing, Node, Point, point_of, goes_on_at, gone, gone_in, node_after, end_of_walk, CaseTable, IsAtWord, IsNoLoad, IsThere, EditSetup, graph_in, number_in, edit_in, cells_in, store_of, updates, step_stays, Answers, IsLeast, AtVisit, IsOffPages, HasShortForms, place_of-some, HasSameOutside, Matches, IsWay, walks_match, IsChosen, KeepsAddress, Steps, IsFollowedBy, MatchesIn, StepsOn, at_point, does_at, word_of, ended_stays, EndsAtNode, TellsStep, KeepsLoaded, AreTogether, Linked, RunFacts, Spares, instr_in, limits_in, EditsAnswer, KeptIn}
+use Rattle.edit_core.proofs.Common.{◌≡◌, ◌≢◌, ℕ, zero, suc, ◌+◌, ◌-◌, ◌<◌, ◌≤◌, ◌⊎◌, inl, inr, Option, Some, None, List, ◌++◌, append-nil, refl, ap, sym, ◌∙◌, subst, arith, node_at, fetch_of, Span, AllApart, Ending, State, sum_of, run, IsAmong, StateItem, Register, IsItem, IsSameAt, place_of, place_of-below, WritesIn, IsUntouched, visit_of, pages_of, Ends, stays_ended, puts_nothing, Node, Point, point_of, goes_on_at, gone, gone_in, node_after, end_of_walk, IsAtWord, IsNoLoad, IsThere, EditSetup, graph_in, number_in, edit_in, cells_in, store_of, updates, step_stays, Answers, IsLeast, AtVisit, IsOffPages, HasShortForms, place_of-some, HasSameOutside, Matches, IsWay, walks_match, KeepsAddress, MatchesIn, StepsOn, at_point, does_at, word_of, ended_stays, EndsAtNode, TellsStep, KeepsLoaded, AreTogether, Linked, RunFacts, Spares, instr_in, limits_in, EditsAnswer, Answered, KeptIn, own_trail, trail_of, IsStop, visits_by, unless_ended, cases_lt, length, []}
+use Rattle.image_code.specs.Simulates.{IsOnWay}
 use Rattle.v8_step.specs.Step.{step_of, puts_of, on_word, puts_on_word}
-use Rattle.v8_step.specs.Code.{AreSameAt}
 use Rattle.two_runs.proofs.Reading.{same_sum}
 use Rattle.v8_decode.specs.Effects.{op2_parts, reg}
 use Rattle.v8_decode.specs.declared.Op2.{Op2}
-use Rattle.v8_decode.specs.declared.Op2.TheVariants.{Reg, Imm}
-use Rattle.v8_decode.specs.declared.Instr.TheVariants as i
-use Rattle.v8_decode.specs.declared.LoadKind.TheVariants as loads
-use Rattle.two_runs.specs.Alike.{IsSameWorld}
+use Rattle.v8_decode.specs.declared.Op2.TheVariants.{Reg}
 use Rattle.two_runs.specs.Needed.{decoded, instr_at, judged_in}
 use Rattle.v8_step.proofs.Executable.{code_stays}
 use Rattle.two_runs.proofs.Outside.{byte_outside, heap_end_same}
 use Rattle.v8_step.proofs.ValidSteps.{run-valid}
-use Rattle.code_runs.proofs.Leads.{run_add, puts_add, split_below}
+use Rattle.code_runs.proofs.Leads.{run_add, puts_add}
 use Rattle.code_runs.specs.PointsAlike.{AreAlikeOn, AreAtOnePoint, instr_of}
 use Rattle.code_runs.proofs.Ours.{outside_trans}
 use Rattle.code_runs.proofs.PointsAlike.{points_act_alike}
-use Rattle.jump_code.specs.PageWords.{saved_address}
 use Rattle.two_runs.proofs.Follows.{runs_follow}
-use Rattle.edit_core.proofs.Stops.{gone_none, same_node, same_store, Follows, Tells, stop_is}
-use Rattle.edit_core.proofs.Trails.{node_of_place, placed_between, there_node, visited_address}
-
--- both are over; the written file's pc is then in a place of the node where the original's walk ended, and of the last
--- instruction, or outside the pages
-pub record Closed (g : EditSetup) (entry : ℕ) (s0 t0 : State) (n m : ℕ) (d : Ending) : Type 0 where
-  pub first : (run s0 n).ending ≡ Some d
-  pub second : (run t0 m).ending ≡ Some d
-  pub node : node_at g.notes (run t0 m).pc ≡ Some (number_in g (end_of_walk g.text (graph_in g) entry s0 n))
-  pub address : (r : NoteRange) → range_at g.notes (run t0 m).pc ≡ Some r → r.address ≡ (run s0 n).pc
-  pub together : AreTogether g entry s0 t0 n m
-
--- the first states of the original, up to the n-th, stand at points to which the pieces lead, while it runs
-abbrev pub StaysInside : (Point → Type 0) → State → ℕ → Type 0
-StaysInside Inside s0 n = (k : ℕ) → k ≤ n → (run s0 k).ending ≡ None → Inside (point_of (run s0 k))
+use Rattle.edit_core.proofs.Trails.{ending, going, long_lives, longer, node_of_place, over_or_not, own_live, placed_between, quiet_trail, stays, trail_stays, visit_lives, visit_more, visited_address}
+use Rattle.two_runs.specs.TwoRuns.{IsBounded}
 
 -- ---- small things
 
@@ -41,42 +24,12 @@ same_trans : (item : StateItem) (s t u : State) → IsSameAt item s t → IsSame
 same_trans (Register n) s t u h k = h ∙ k
 same_trans _ s t u h k = h ∙ k
 
-world_then : (pages : List Span) (Kept : StateItem → Type 0) (s v t : State) → IsSameWorld pages s v
-    → IsFollowedBy pages Kept v t → IsSameWorld pages s t
-world_then pages Kept s v t h k = record {
-  window = h.window ∙ sym k.window;
-  valid = h.valid ∙ sym k.valid;
-  input = h.input ∙ sym k.input;
-  memory = outside_trans pages s.memory v.memory t.memory h.memory k.memory;
-  registers = h.registers ∙ sym k.registers;
-}
-
-world_moved : (pages : List Span) (s t : State) (p : Point) → IsSameWorld pages s t → IsSameWorld pages s (at_point p t)
-world_moved pages s t p h = assumption
-
 same_moved : (item : StateItem) (s t : State) (p : Point) → IsSameAt item s t → IsSameAt item s (at_point p t)
 same_moved (Register n) s t p h = h
 same_moved _ s t p h = h
 
 instr_same : (e : Option Ending) (o : Option ℕ) → e ≡ None → decoded e o ≡ instr_of o
-instr_same None None h = refl
-instr_same None (Some w) h = refl
-instr_same (Some d) o h = absurd (cc)
-
-step_live : (s : State) (o : Option ℕ) → s.ending ≡ None → fetch_of s.memory s.pc ≡ o → step_of s ≡ on_word s o
-unfolding step_of
-step_live s o e f = cc (e, f)
-
-puts_live : (s : State) (o : Option ℕ) (descriptor : ℕ) → s.ending ≡ None → fetch_of s.memory s.pc ≡ o
-    → puts_of s descriptor ≡ puts_on_word s o descriptor
-unfolding puts_of
-puts_live s o descriptor e f = cc (e, f)
-
-goes_same : (x : Option Ending) (s v : State) → s.ending ≡ x → s.ending ≡ v.ending
-    → (s.ending ≡ None → point_of s ≡ point_of v) → goes_on_at v ≡ goes_on_at s
-goes_same None s v e h k =
-    cc (h, e, k e)
-goes_same (Some d) s v e h k = cc (h, e)
+instr_same e o live = grind arith
 
 -- the same point, as one
 one_point : (s u : State) → AreAtOnePoint s u → point_of s ≡ point_of u
@@ -84,24 +37,13 @@ one_point s u h = cc (h.pc, h.npc, h.slot)
 
 -- a load's operands are read
 load_sum : (rs1 : ℕ) (op2 : Op2) (s u : State) → s.window ≡ u.window
-    → ((item : StateItem) → IsItem item → IsAmong item s.window (reg rs1 ++ op2_parts op2) → IsSameAt item s u)
-    → sum_of s rs1 op2 ≡ sum_of u rs1 op2
-load_sum rs1 op2 s u w f = same_sum rs1 op2 s u w (first rs1 f) (second rs1 op2 f)
-  where
-    register : (r : ℕ) → IsItem (Register (place_of s.window (suc r)))
-    register r = (place_of-some s.window (suc r) (λ e. absurd (cc)), place_of-below s.window (suc r))
-
-    first : (r : ℕ) → ((item : StateItem) → IsItem item → IsAmong item s.window (reg r ++ op2_parts op2) → IsSameAt item s u)
-        → AreSameAt (reg r) s u
-    first zero f = tt
-    first (suc r) f = (f (Register (place_of s.window (suc r))) (register r) (inl refl), tt)
-
-    second : (r : ℕ) (o : Op2) → ((item : StateItem) → IsItem item → IsAmong item s.window (reg r ++ op2_parts o) → IsSameAt item s u)
-        → AreSameAt (op2_parts o) s u
-    second r (Imm n) f = tt
-    second r (Reg zero) f = tt
-    second zero (Reg (suc q)) f = (f (Register (place_of s.window (suc q))) (register q) (inl refl), tt)
-    second (suc r) (Reg (suc q)) f = (f (Register (place_of s.window (suc q))) (register q) (inr (inl refl)), tt)
+    → ((r : ℕ) → IsAmong (Register (place_of s.window (suc r))) s.window (reg rs1 ++ op2_parts op2)
+    → IsSameAt (Register (place_of s.window (suc r))) s u) → sum_of s rs1 op2 ≡ sum_of u rs1 op2
+load_sum zero (Reg (suc q)) s u w f = same_sum zero (Reg (suc q)) s u w tt (f q (inl refl), tt)
+load_sum (suc r) (Reg (suc q)) s u w f =
+    same_sum (suc r) (Reg (suc q)) s u w (f r (inl refl), tt) (f q (inr (inl refl)), tt)
+load_sum zero op2 s u w f = same_sum zero op2 s u w tt tt
+load_sum (suc r) op2 s u w f = same_sum (suc r) op2 s u w (f r (inl refl), tt) tt
 
 -- ---- one step
 
@@ -143,11 +85,17 @@ module _ (g : EditSetup) (entry : ℕ) (Inside : Point → Type 0) (AtVisit : No
   abbrev Links : ℕ → ℕ → Type 0
   Links n m = Linked g entry AtVisit K s0 t0 n m
 
-  abbrev Closes : ℕ → ℕ → Ending → Type 0
-  Closes n m d = Closed g entry s0 t0 n m d
+  -- a stop at moment m tells of step n, where it is in a place or outside the pages
+  abbrev Tells : ℕ → ℕ → Type 0
+  Tells n m = node_at g.notes (t m).pc ≢ None → TellsStep (edit_in g) entry s0 t0 m n
 
-  abbrev Saves : ℕ → ℕ → ℕ → Type 0
-  Saves n m k = Spares g entry NoLongForms s0 t0 n m k
+  -- a step that ends the run completes no edge
+  ended_same : (n : ℕ) (d : Ending) → (s (suc n)).ending ≡ Some d
+      → (edges n ≡ []) × (store (suc n) ≡ store n) × (node (suc n) ≡ node n)
+  unfolding end_of_walk
+  ended_same n d over =
+      let none : edges n ≡ [] = ap (λ o. gone g.text (graph_in g) (node n) (point n) (unless_ended o (point (suc n)))) over in
+      (none, ap (λ es. updates g.snips es (store n) (s (suc n))) none, ap (node_after (graph_in g) (node n)) none)
 
   record IsNext (n m : ℕ) : Type 0 where
     pub alike : IsAlike n m
@@ -161,69 +109,58 @@ module _ (g : EditSetup) (entry : ℕ) (Inside : Point → Type 0) (AtVisit : No
   -- how far both runs have come, up to step `last`
   data Reached (last n m : ℕ) : Type 0 where
     goes : Links n m → Reached last n m
-    ends : (d : Ending) → Closes n m d → Reached last n m
+    -- the written file's pc is then in a place of the node where the original's walk ended, and of the last instruction, or
+    -- outside the pages
+    ends : (d : Ending) → (s n).ending ≡ Some d → (t m).ending ≡ Some d → AreTogether g entry s0 t0 n m
+        → TellsStep (edit_in g) entry s0 t0 m n → Reached last n m
     past : last < n → Reached last n m
 
   module _ (r : RunFacts g entry Inside AtVisit NoLongForms K s0 t0) where
     fetched : (n : ℕ) → fetch_of (s n).memory (s n).pc ≡ word n
     fetched n = code_stays.1 s0 n (s n).pc ∙ r.fetches (s n).pc
 
+    stepped : (n : ℕ) → (s n).ending ≡ None → s (suc n) ≡ on_word (s n) (word n)
+    unfolding step_of
+    stepped n live = cc (live, fetched n)
+
+    put : (n descriptor : ℕ) → (s n).ending ≡ None → puts_of (s n) descriptor ≡ puts_on_word (s n) (word n) descriptor
+    unfolding puts_of
+    put n descriptor live = cc (live, fetched n)
+
     matched : (n : ℕ) → (s n).ending ≡ None → MatchesIn g (node n) (point n)
     matched n live = walks_match g.text g.given g.switches entry s0 n r.text r.fetches r.begins r.opened r.by_case live
-
-    end_next : (n : ℕ) → node_after (graph_in g) (node n) (edges n) ≡ node (suc n)
-    unfolding end_of_walk
-    end_next n = refl
 
     next_of : (n m : ℕ) → Links n m → AllApart pages (judged_in (s n) (instr_at (s n))) → Inside (point n)
         → ((s (suc n)).ending ≡ None → Inside (point (suc n))) → IsNext n m
     next_of n m h apart within inside =
         let visits = r.simulates.visits _ _ _ (matched n h.live) within h.here in
-        let stepped : s (suc n) ≡ on_word (s n) (word n) = step_live (s n) _ h.live (fetched n) in
         let judged = rw (ap (decoded (s n).ending) (fetched n) ∙ instr_same (s n).ending (word n) h.live) at apart in
-        let a = points_act_alike g.notes (word n) (s n) (at_point (point n) (t m)) h.live visits.0
-        (run-valid s0 n r.first_valid).registers (run-valid t0 m r.second_valid).registers
-        (record { pc = refl; npc = refl; slot = refl }) (world_moved pages (s n) (t m) (point n) h.together.world)
-        (λ item is d. same_moved item (s n) (t m) (point n)
-        (h.items item is (r.keeping.reads n item is h.live d))) judged in
-        let b : IsAlike n m = rw stepped a in
-        let whole = subst (λ (z : Option Point). Steps g AtVisit NoLongForms (gone g.text (graph_in g) (node n) (point n) z)
-        (node n) (point n) (t m) (does n m)) (goes_same (s (suc n)).ending (s (suc n)) (does n m) refl b.ending
-        (λ live. one_point (s (suc n)) (does n m) (b.point live))) (r.simulates.steps (node n) (point n) (t m)
-        (matched n h.live) within h.here b.judged (λ live. let on : (s (suc n)).ending ≡ None = b.ending
-        ∙ live in subst Inside (one_point (s (suc n)) (does n m) (b.point on)) (inside on))
-        (λ k o is at. chosen k o is at b)) in
-        record {
-          alike = b;
-          on = whole.on;
-          keeps = whole.keeps;
-          pc = pc_by (s (suc n)).ending refl stepped visits.0 b;
-          visit = visits.1;
-          node = visits.2;
-        }
-      where
+        let world = h.together.world in
+        let b : IsAlike n m = rw (stepped n h.live) (points_act_alike g.notes (word n) (s n) (at_point (point n) (t m)) h.live
+        visits.0 (run-valid s0 n r.first_valid).registers (run-valid t0 m r.second_valid).registers
+        (record { pc = refl; npc = refl; slot = refl }) (assumption) (λ item is d. same_moved item (s n) (t m) (point n)
+        (h.items item is (r.keeping.reads n item is h.live d))) judged) in
+        let ends = ends_by (s (suc n)).ending refl visits.0 b in
+        let whole = rw ends.1 at (r.simulates.steps (node n) (point n) (t m)
+        (matched n h.live) within h.here b.judged (λ live. let on : (s (suc n)).ending ≡ None = b.ending ∙ live in
+        rw (one_point (s (suc n)) (does n m) (b.point on)) at (inside on)) (λ k o is at.
         -- the jump of an open switch goes by the entry whose address is kept
-        chosen : (k : ℕ) (o : CaseTable) → slice_get g.opens k ≡ Some o → IsAtWord g o (node n) (point n) o.jump
-            → IsAlike n m → IsChosen g o (t m) (does n m)
-        chosen k o is at b =
-            let c = r.by_table n h.live k o is at in
-            let order = (r.opens.each k o is).order in
-            record {
-              entry = c.number;
-              below = c.below;
-              kept = h.kept k o is c.start (o.jump - o.load) c.since (omega (arith, order)) c.came ∙ c.loaded;
-              goes = sym (b.point c.live).npc ∙ c.goes;
-              live = sym b.ending ∙ c.live;
-            }
-
-        pc_by : (e : Option Ending) → (s (suc n)).ending ≡ e → s (suc n) ≡ on_word (s n) (word n) → (t m).ending ≡ None
-            → IsAlike n m → (s (suc n)).pc ≡ (does n m).pc
-        pc_by None e stepped other b = (b.point e).pc
-        pc_by (Some d) e stepped other b =
-            let first : (on_word (s n) (word n)).ending ≡ Some d = ap (λ (z : State). z.ending) (sym stepped) ∙ e in
-            let second : (does n m).ending ≡ Some d = sym b.ending ∙ e in
-            ap (λ (z : State). z.pc) stepped ∙ ended_stays (s n) (word n) h.live (λ none. absurd (cc))
-            ∙ sym (ended_stays (at_point (point n) (t m)) (word n) other (λ none. absurd (cc)))
+        let c = r.by_table n h.live k o is at in
+        record {
+          entry = c.number;
+          below = c.below;
+          kept = h.kept k o is c.start (o.jump - o.load) c.since (omega (arith, (r.opens.each k o is).order)) c.came ∙ c.loaded;
+          goes = sym (b.point c.live).npc ∙ c.goes;
+          live = sym b.ending ∙ c.live;
+        })) in
+        record { alike = b; on = whole.on; keeps = whole.keeps; pc = ends.0; visit = visits.1; node = visits.2 }
+      where
+        ends_by : (e : Option Ending) → (s (suc n)).ending ≡ e → (t m).ending ≡ None → IsAlike n m
+            → ((s (suc n)).pc ≡ (does n m).pc) × (goes_on_at (does n m) ≡ goes_on_at (s (suc n)))
+        ends_by None e other b = ((b.point e).pc, cc (b.ending, one_point (s (suc n)) (does n m) (b.point e)))
+        ends_by (Some d) e other b =
+            let stays = ended_stays (at_point (point n) (t m)) (word n) other (λ none. absurd (cc (b.ending, e, none))) in
+            (step_stays (s n) d h.live e ∙ sym stays, cc (b.ending, e))
 
     -- what holds where the written file is after the step
     module _ (n m : ℕ) (h : Links n m) (x : IsNext n m) where
@@ -233,19 +170,29 @@ module _ (g : EditSetup) (entry : ℕ) (Inside : Point → Type 0) (AtVisit : No
       arrived : t later ≡ x.on.after
       arrived = run_add t0 m x.on.count ∙ x.on.path.steps
 
-      puts_next : (descriptor : ℕ) → run_puts s0 (suc n) descriptor ≡ run_puts t0 later descriptor
-      puts_next descriptor =
-          ap (λ z. z ++ puts_of (s n) descriptor) (h.together.puts descriptor) ∙ ap (λ z. run_puts t0 m descriptor ++ z)
-          (puts_live (s n) (word n) descriptor h.live (fetched n) ∙ x.alike.puts descriptor ∙ sym (x.on.puts descriptor))
-          ∙ sym (puts_add t0 m x.on.count descriptor)
-
-      world_next : IsSameWorld pages (s (suc n)) (t later)
-      world_next = rw arrived (world_then pages _ _ (does n m) x.on.after x.alike.world x.on.followed)
-
       before : (item : StateItem) → IsItem item → WritesIn (instr_in g s0 n) (s n).window item ⊎ K n item
           → WritesIn (instr_in g s0 n) (s n).window item ⊎ IsSameAt item (s n) (at_point (point n) (t m))
       before item is (inl a) = inl a
       before item is (inr a) = inr (same_moved item (s n) (t m) (point n) (h.items item is a))
+
+      cells_next : (e : Option Ending) → (s (suc n)).ending ≡ e → cells_in g.notes (t later) ≡ store (suc n)
+      cells_next None live =
+          let named = r.keeping.named n (store n) (does n m) live x.alike.world.window
+          (λ item is k. x.alike.items live item is (before item is k)) in
+          rw (arrived, x.on.cells, h.together.cells) (sym named)
+      cells_next (Some d) over = rw (arrived, x.on.cells, (ended_same n d over).0) h.together.cells
+
+      together_next : AreTogether g entry s0 t0 (suc n) later
+      together_next =
+          let memory = outside_trans pages _ _ _ x.alike.world.memory x.on.followed.memory in
+          record {
+            world = rw arrived (record { window = cc; valid = cc; input = cc; memory = memory; registers = cc });
+            puts = λ descriptor.
+                let b = h.together.puts descriptor in
+                let c = x.on.puts descriptor in
+                cc (b, c, put n descriptor h.live, x.alike.puts descriptor, puts_add t0 m x.on.count descriptor);
+            cells = cells_next (s (suc n)).ending refl;
+          }
 
       module _ (live : (s (suc n)).ending ≡ None) where
         go : (does n m).ending ≡ None
@@ -261,119 +208,69 @@ module _ (g : EditSetup) (entry : ℕ) (Inside : Point → Type 0) (AtVisit : No
             (rw x.alike.world.window at (r.keeping.live n item k)))
 
         -- at a load both compute the same address
-        sums_next : (k : ℕ) (o : CaseTable) → slice_get g.opens k ≡ Some o → word_at g.text (s (suc n)).pc ≡ Some o.load
-            → sum_of (s (suc n)) o.rs1 o.op2 ≡ sum_of x.on.after o.rs1 o.op2
-        sums_next k o is at =
-            let c = r.opens.each k o is in
-            let instr : instr_in g s0 (suc n) ≡ Some (i.Load loads.LD c.rd o.rs1 o.op2) = cc (at, c.loads) in
-            load_sum o.rs1 o.op2 (s (suc n)) x.on.after (x.alike.world.window ∙ sym x.on.followed.window)
-            (λ item is among. items_next item is (r.keeping.reads (suc n) item is live (rw instr (inr among))))
-
         kept_next : KeepsLoaded g entry s0 (suc n) (t later)
+        unfolding end_of_walk
         kept_next k o is start zero e low came =
+            let q : o.load + 0 ≡ o.load = omega arith in
+            let z : 0 + start ≡ suc n = omega (arith, e) in
             let now : suc n ≡ start = omega (arith, e) in
-            let first : IsAtWord g o (node (suc n)) (point (suc n)) o.load =
-            (let q : o.load + 0 ≡ o.load = omega arith in let z : 0 + start ≡ suc n = omega (arith, now) in
-            rw q at (rw z at (came 0 (omega arith)))) in
-            ap (λ (z : State). saved_address z) arrived ∙ x.keeps.loaded go k o is
-            (subst (λ (z : Point). IsAtWord g o (node_after (graph_in g) (node n) (edges n)) z o.load) moved
-            (rw (← end_next n) at first)) ∙ sym (sums_next k o is first.stands) ∙ ap (λ a. sum_of (s a) o.rs1 o.op2) now
+            let at : IsAtWord g o (node (suc n)) (point (suc n)) o.load = rw (z, q) at (came 0 (omega arith)) in
+            let c = r.opens.each k o is in
+            let sums = load_sum o.rs1 o.op2 (s (suc n)) x.on.after (x.alike.world.window ∙ sym x.on.followed.window)
+            (λ q among. let item = Register (place_of (s (suc n)).window (suc q)) in
+            let is : IsItem item = (place_of-some _ (suc q) (λ e. absurd (cc)), place_of-below _ (suc q)) in
+            items_next item is (r.keeping.reads (suc n) item is live (rw (at.stands, c.loads) (inr among)))) in
+            let loaded = x.keeps.loaded go k o is (record { itself = at.itself; outside = cc (moved); stands = cc (moved) }) in
+            cc (arrived, loaded, sums, now)
         kept_next k o is start (suc more) e low came =
             let before_it : n ≡ more + start = omega (arith, e) in
-            ap (λ (z : State). saved_address z) arrived ∙ x.keeps.carried go k o is (o.load + more)
-            (rw (← before_it) at (came more (omega arith))) (omega arith) (omega (arith, low))
-            ∙ h.kept k o is start more before_it (omega (arith, low)) (λ j less. came j (omega (arith, less)))
+            let carried = x.keeps.carried go k o is (o.load + more) (rw (← before_it) at (came more (omega arith)))
+            (omega arith) (omega (arith, low)) in
+            cc (
+              arrived,
+              carried,
+              h.kept k o is start more before_it (omega (arith, low)) (λ j less. came j (omega (arith, less))),
+            )
 
-        linked_next : Links (suc n) later
-        linked_next = record {
-          live = live;
-          here = rw arrived (rw moved (rw (end_next n) at (x.on.here go)));
-          items = λ item is k. rw arrived (items_next item is k);
-          kept = kept_next;
-          together = record {
-            world = world_next;
-            puts = puts_next;
-            cells = ap (cells_in g.notes) arrived ∙ x.on.cells
-                ∙ ap (λ z. updates g.snips (edges n) z (does n m)) h.together.cells
-                ∙ sym (r.keeping.named n (store n) (does n m) live x.alike.world.window
-                (λ item is k. x.alike.items live item is (before item is k)));
-          };
-        }
-
-      closed_next : (d : Ending) → (s (suc n)).ending ≡ Some d → Closes (suc n) later d
-      closed_next d over =
+      reached_next : (last : ℕ) (e : Option Ending) → (s (suc n)).ending ≡ e → Reached last (suc n) later
+      unfolding end_of_walk
+      reached_next last None live = goes (record {
+        live = live;
+        here = rw arrived (rw (← moved live) at (x.on.here (go live)));
+        items = λ item is k. rw arrived (items_next live item is k);
+        kept = kept_next live;
+        together = together_next;
+      })
+      reached_next last (Some d) over =
           let ended : (does n m).ending ≡ Some d = sym x.alike.ending ∙ over in
           let there : IsThere g (t m) x.on.after = x.on.place (λ none. absurd (cc)) in
-          let at = arrived in
-          record {
-            first = over;
-            second = ap (λ (z : State). z.ending) at ∙ x.on.followed.ending ∙ ended;
-            node = cc (at, there_node g (t m) x.on.after there, x.node, same_node g entry s0 n d over);
-            address = λ place is. visited_address g.notes (t m) (s n).pc place x.visit (cc (there.range, at, is))
+          ends d over (cc (arrived, x.on.followed.ending, ended)) together_next (record {
+            cells = together_next.cells;
+            node = cc (arrived, there.range, there.page, x.node, (ended_same n d over).2);
+            address = λ place is. visited_address g.notes (t m) (s n).pc place x.visit (cc (there.range, arrived, is))
                 ∙ sym (step_stays (s n) d h.live over);
-            together = record {
-              world = world_next;
-              puts = puts_next;
-              cells = ap (cells_in g.notes) at ∙ x.on.cells
-                  ∙ ap (λ es. updates g.snips es (cells_in g.notes (t m)) (does n m)) (gone_none g entry s0 n d over)
-                  ∙ h.together.cells ∙ sym (same_store g entry s0 n d over);
-            };
-          }
+          })
 
     -- what its steps store and take
-    spares_next : (n m : ℕ) (x : IsNext n m) → Saves n m (x.on.count + m)
+    spares_next : (n m : ℕ) (x : IsNext n m) → Spares g entry NoLongForms s0 t0 n m (x.on.count + m)
     spares_next n m x watched =
-        let sparing = x.on.sparing (record {
-          jump = watched.jump;
-          out = watched.out;
-          inside = subst (λ (z : ℕ). word_at g.text z ≢ None) x.pc watched.inside;
-        }) in
+        let sparing = x.on.sparing (record { jump = watched.jump; out = watched.out; inside = rw x.pc at watched.inside }) in
         let all : x.on.count ≡ x.on.count + m - m = omega arith in
         rw (← all) (record {
           spills = sparing.spills;
-          first = λ short. sparing.first (short.1, no_load short.2);
-          alone = λ short. sparing.alone (short.1, no_load short.2);
-          few = λ short. sparing.few (short.1, no_load short.2);
-        })
-      where
-        no_load : IsNoLoad g (s (suc n)) → IsNoLoad g (does n m)
-        no_load none k o is at = none k o is (ap (word_at g.text) x.pc ∙ at)
-
-    -- nothing, once it has ended
-    spares_ended : (n m : ℕ) (d : Ending) → (s n).ending ≡ Some d → Saves n m m
-    spares_ended n m d over watched =
-        let none : 0 ≡ m - m = omega arith in
-        rw (← none) (record {
-          spills = omega arith;
-          first = λ short. refl;
-          alone = λ short. absurd (let live : (s n).ending ≡ None = short.0 in cc);
-          few = λ short none. omega arith;
+          first = λ short. sparing.first (short.1, rw x.pc at short.2);
+          alone = λ short. sparing.alone (short.1, rw x.pc at short.2);
+          few = λ short. sparing.few (short.1, rw x.pc at short.2);
         })
 
-    closed_stays : (n m : ℕ) (d : Ending) → Closes n m d → Closes (suc n) m d
-    closed_stays n m d h =
-        let stays : s (suc n) ≡ s n = stays_ended (s n) d h.first in
-        let over : (s (suc n)).ending ≡ Some d = ap (λ (z : State). z.ending) stays ∙ h.first in
-        record {
-          first = over;
-          second = h.second;
-          node = cc (h.node, same_node g entry s0 n d over);
-          address = λ place is. h.address place is ∙ sym (ap (λ (z : State). z.pc) stays);
-          together = record {
-            world = rw stays h.together.world;
-            puts = λ descriptor. ap (λ z. run_puts s0 n descriptor ++ z) (puts_nothing (s n) d descriptor h.first)
-                ∙ append-nil (run_puts s0 n descriptor) ∙ h.together.puts descriptor;
-            cells = h.together.cells ∙ sym (same_store g entry s0 n d over);
-          };
-        }
-
-    module _ (last : ℕ) (u : IsUntouched pages s0 last) (inside : StaysInside Inside s0 last) where
+    module _ (last : ℕ) (u : IsUntouched pages s0 last)
+        (inside : (k : ℕ) → k ≤ last → (s k).ending ≡ None → Inside (point k)) where
       -- ---- what holds at each
 
       record IsMoment (n m : ℕ) : Type 0 where
         matches : Matches g.notes s0 t0 n m
         cells : cells_in g.notes (t m) ≡ store n
-        told : Tells g entry s0 t0 n m
+        told : Tells n m
         over : EndsAtNode (edit_in g) entry s0 t0 n m
 
       same_outside : (n m : ℕ) → AreTogether g entry s0 t0 n m → HasSameOutside g.notes s0 t0 n m
@@ -385,41 +282,28 @@ module _ (g : EditSetup) (entry : ℕ) (Inside : Point → Type 0) (AtVisit : No
       }
 
       -- at a visit
-      tells_there : (n m : ℕ) → n ≤ last → Links n m → TellsStep (edit_in g) entry s0 t0 m n
-      tells_there n m l h =
-          let visits = r.simulates.visits _ _ _ (matched n h.live) (inside n l h.live) h.here in
-          record {
-            cells = h.together.cells;
-            node = visits.2;
-            address = λ place is. visited_address g.notes (t m) (s n).pc place visits.1 is;
-          }
+      tells_at : (n m : ℕ) → cells_in g.notes (t m) ≡ store n → node_at g.notes (t m).pc ≡ Some (number_in g (node n))
+          → visit_of g.notes (t m) ≡ Some (s n).pc → TellsStep (edit_in g) entry s0 t0 m n
+      tells_at n m a b visit = record { cells = a; node = b; address = λ r is. visited_address g.notes (t m) _ r visit is }
 
       moment_at : (n m : ℕ) → n ≤ last → Reached last n m → IsMoment n m
       moment_at n m l (goes h) =
-          let on : GoesOn g.notes s0 t0 n m = record {
-            visit = (r.simulates.visits _ _ _ (matched n h.live) (inside n l h.live) h.here).1;
-            window = h.together.world.window;
-            valid = h.together.world.valid;
-            needed = λ item needed. h.items item needed.is_item (r.keeping.needed n item needed);
-            world = same_outside n m h.together;
-          } in
+          let visits = r.simulates.visits _ _ _ (matched n h.live) (inside n l h.live) h.here in
           record {
-            matches = rw h.live on;
+            matches = rw h.live (record {
+              visit = visits.1;
+              window = h.together.world.window;
+              valid = h.together.world.valid;
+              needed = λ item needed. h.items item needed.is_item (r.keeping.needed n item needed);
+              world = same_outside n m h.together;
+            });
             cells = h.together.cells;
-            told = λ some. tells_there n m l h;
+            told = λ some. tells_at n m h.together.cells visits.2 visits.1;
             over = λ over. absurd (over h.live);
           }
-      moment_at n m l (ends d h) =
-          let on : Ends g.notes s0 t0 n m = record {
-            ending = h.second ∙ sym h.first;
-            world = same_outside n m h.together;
-          } in
-          record {
-            matches = rw h.first on;
-            cells = h.together.cells;
-            told = λ some. record { cells = h.together.cells; node = h.node; address = h.address };
-            over = λ over. h.node;
-          }
+      moment_at n m l (ends d first second h tells) =
+          let on : Ends g.notes s0 t0 n m = record { ending = second ∙ sym first; world = same_outside n m h } in
+          record { matches = rw first on; cells = h.cells; told = λ some. tells; over = λ over. tells.node }
       moment_at n m l (past k) = absurd (omega arith)
 
       -- ---- what holds from one to the next
@@ -427,133 +311,212 @@ module _ (g : EditSetup) (entry : ℕ) (Inside : Point → Type 0) (AtVisit : No
       record IsStep (n m k : ℕ) : Type 0 where
         goes : (s n).ending ≡ None → IsWay g.notes t0 m k (limits_in g entry s0 n)
         stays : (d : Ending) → (s n).ending ≡ Some d → k ≡ m
-        spared : Saves n m k
-        between : (j : ℕ) → m ≤ j → j < k → Tells g entry s0 t0 n j
+        spared : Spares g entry NoLongForms s0 t0 n m k
+        between : (j : ℕ) → m ≤ j → j < k → Tells n j
 
       record Next (n m : ℕ) : Type 0 where
         moment : ℕ
         reached : Reached last (suc n) moment
         step : n < last → IsStep n m moment
 
-      -- a moment on the way
-      quiet_at : (m j : ℕ) → m ≤ j → t j ≡ run (t m) (j - m)
-      quiet_at m j l = (let e : j ≡ (j - m) + m = omega arith in ap (run t0) e) ∙ run_add t0 m (j - m)
-
-      way_by : (n m : ℕ) (x : IsNext n m) → IsWay g.notes t0 m (x.on.count + m) (limits_in g entry s0 n)
-      way_by n m x =
-          record {
-            forward = omega arith;
-            short = omega arith;
-            quiet = λ j a b.
-                let on = x.on.path.quiet (j - m) (omega arith) (omega arith) in
-                let at = quiet_at m j (omega arith) in
-                (ap (λ (s : State). s.ending) at ∙ on.live, ap (visit_of g.notes) at ∙ on.visit);
-          }
+      on_way : (n m j : ℕ) (x : IsNext n m) → m < j → j < x.on.count + m → IsOnWay g (t m) (t j)
+      on_way n m j x a b =
+          let e : j ≡ (j - m) + m = omega arith in
+          rw (ap (run t0) e ∙ run_add t0 m (j - m)) (x.on.path.quiet (j - m) (omega arith) (omega arith))
 
       -- at a visit, or past it, in its place
-      told_from : (n m k : ℕ) → n ≤ last → Links n m → (x : IsNext n m) → m ≤ k → k < x.on.count + m
-          → (m < k) ⊎ (k ≤ m) → Tells g entry s0 t0 n k
-      told_from n m k l h x a b (inr c) = let e : k ≡ m = omega arith in rw e (λ some. tells_there n m l h)
-      told_from n m k l h x a b (inl c) = λ some.
-          let u = run (t m) (k - m) in
-          let at = quiet_at m k a in
-          let on = x.on.path.quiet (k - m) (omega arith) (omega arith) in
-          let same : node_at g.notes (t k).pc ≡ node_at g.notes u.pc = ap (λ (z : State). node_at g.notes z.pc) at in
-          let place = placed_between g.notes u on.live on.visit (λ none. some (same ∙ none)) in
-          let there = on.place place.0 place.1 in
-          record {
-            cells = ap (cells_in g.notes) at ∙ there.1 ∙ h.together.cells;
-            node = same ∙ node_of_place g.notes u.pc place.0 place.1
-                ∙ sym (node_of_place g.notes (t m).pc place.0 there.0) ∙ x.node;
-            address = λ other is. visited_address g.notes (t m) (s n).pc other x.visit (cc (there.0, place.1, at, is));
-          }
-
-      went_by : (n m : ℕ) → Links n m → (x : IsNext n m) → (e : Option Ending) → (s (suc n)).ending ≡ e
-          → Reached last (suc n) (x.on.count + m)
-      went_by n m h x None e = goes (linked_next n m h x e)
-      went_by n m h x (Some d) e = ends d (closed_next n m h x d e)
+      told_from : (n m k : ℕ) → Links n m → (x : IsNext n m) → m ≤ k → k < x.on.count + m → Tells n k
+      told_from n m k h x a b some = elim (cases_lt m k) [
+        | inr c ↦ let e : k ≡ m = omega arith in rw e (tells_at n m h.together.cells x.node x.visit)
+        | inl c ↦
+            let on = on_way n m k x c b in
+            let place = placed_between g.notes (t k) on.live on.visit some in
+            let there = on.place place.0 place.1 in
+            let here = node_of_place g.notes (t m).pc place.0 there.0 in
+            record {
+              cells = there.1 ∙ h.together.cells;
+              node = node_of_place g.notes (t k).pc place.0 place.1 ∙ sym here ∙ x.node;
+              address = λ r is. visited_address g.notes (t m) (s n).pc r x.visit (cc (there.0, place.1, is));
+            }
+      ]
 
       next : (n m : ℕ) → Reached last n m → Next n m
-      next n m (goes h) = elim (split_below n last) [
+      next n m (goes h) = elim (cases_lt n last) [
         | inl l ↦
             let x = next_of n m h (u.unjudged n l) (inside n (omega (arith, l)) h.live) (inside (suc n) l) in
             record {
               moment = x.on.count + m;
-              reached = went_by n m h x (s (suc n)).ending refl;
+              reached = reached_next n m h x last (s (suc n)).ending refl;
               step = λ _. record {
-                goes = λ live. way_by n m x;
+                goes = λ live. record {
+                  forward = omega arith;
+                  short = omega arith;
+                  quiet = λ j a b. let on = on_way n m j x a b in (on.live, on.visit);
+                };
                 stays = λ d over. absurd (let live : (s n).ending ≡ None = h.live in cc);
                 spared = spares_next n m x;
-                between = λ j a b. told_from n m j (omega (arith, l)) h x a b (split_below m j);
+                between = λ j a b. told_from n m j h x a b;
               };
             }
         | inr l ↦ record { moment = m; reached = past (omega (arith, l)); step = λ k. absurd (omega (arith, l, k)) }
       ]
-      next n m (ends d h) = record {
-        moment = m;
-        reached = ends d (closed_stays n m d h);
-        step = λ _. record {
-          goes = λ live. absurd (let over : (s n).ending ≡ Some d = h.first in cc);
-          stays = λ e over. refl;
-          spared = spares_ended n m d h.first;
-          between = λ j a b. absurd (omega arith);
-        };
-      }
+      next n m (ends d first second h tells) =
+          let stays : s (suc n) ≡ s n = stays_ended (s n) d first in
+          let over : (s (suc n)).ending ≡ Some d = ap (λ (z : State). z.ending) stays ∙ first in
+          let cells = h.cells ∙ sym ((ended_same n d over).1) in
+          record {
+            moment = m;
+            reached = ends d over second (record {
+              world = rw stays h.world;
+              puts = λ descriptor. rw (puts_nothing (s n) d descriptor first, append-nil) (h.puts descriptor);
+              cells = cells;
+            }) (record {
+              cells = cells;
+              node = cc (tells.node, (ended_same n d over).2);
+              address = λ place is. tells.address place is ∙ sym (ap (λ (z : State). z.pc) stays);
+            });
+            step = λ _. record {
+              goes = λ live. absurd (cc);
+              stays = λ e over. refl;
+              spared = λ watched. let none : 0 ≡ m - m = omega arith in rw (← none) (record {
+                spills = omega arith;
+                first = λ short. refl;
+                alone = λ short. absurd (let live : (s n).ending ≡ None = short.0 in cc);
+                few = λ short none. omega arith;
+              });
+              between = λ j a b. absurd (omega arith);
+            };
+          }
       next n m (past l) = record { moment = m; reached = past (omega arith); step = λ k. absurd (omega arith) }
 
       came : (n : ℕ) → (m : ℕ) × Reached last n m
       came zero = (r.begin, goes r.first)
       came (suc n) = let x = next n (came n).0 (came n).1 in (x.moment, x.reached)
 
-      moment : (n : ℕ) → n ≤ last → IsMoment n (came n).0
-      moment n l = moment_at n (came n).0 l (came n).1
+      abbrev moments : ℕ → ℕ
+      moments n = (came n).0
 
-      stepped : (n : ℕ) → n < last → IsStep n (came n).0 (came (suc n)).0
-      unfolding came
-      stepped n l = (next n (came n).0 (came n).1).step l
+      moment : (n : ℕ) → n ≤ last → IsMoment n (moments n)
+      moment n l = moment_at n (moments n) l (came n).1
 
-      pub follows : Follows g entry NoLongForms s0 t0 last
+      step : (n : ℕ) → n < last → IsStep n (moments n) (moments (suc n))
       unfolding came
-      follows = record {
-        moments = λ n. (came n).0;
-        followed = record {
-          soon = r.soon;
-          quiet = λ j a b. ((r.early j b).0, (r.early j b).1);
-          matches = λ n l. (moment n l).matches;
-          goes = λ n l live. (stepped n l).goes live;
-          stays = λ n l d over. (stepped n l).stays d over;
-        };
+      step n l = (next n (moments n) (came n).1).step l
+
+      begins : moments zero ≡ r.begin
+      unfolding came
+      begins = refl
+
+      all_follow : ((n : ℕ) → n ≤ last → IsLeast (Answers g.notes s0 t0 n) (moments n))
+          × ((m : ℕ) → IsLeast (Answers g.notes s0 t0 zero) m → m ≤ 64)
+          × ((n : ℕ) → n < last → IsBounded g.notes s0 t0 n (limits_in g entry s0 n))
+      all_follow = runs_follow g.notes s0 t0 64 (limits_in g entry s0) moments last (record {
+        soon = rw begins r.soon;
+        quiet = λ j a b. let e = r.early j (rw begins at b) in (e.0, e.1);
+        matches = λ n l. (moment n l).matches;
+        goes = λ n l live. (step n l).goes live;
+        stays = λ n l d over. (step n l).stays d over;
+      })
+
+      -- ---- wherever the written file is stopped, it tells of the step that it visited last
+
+      module _ (m : ℕ) (all : visits_by g.notes t0 m ≡ last) where
+        visit_at : (n : ℕ) → n ≤ last → (s n).ending ≡ None → visit_of g.notes (t (moments n)) ≡ Some (s n).pc
+        visit_at n low live = (going g.notes s0 t0 n (moments n) (s n).ending live (moment n low).matches).visit
+
+        -- with the visit of step n there are n + 1
+        many_at : (n : ℕ) → n ≤ last → (s n).ending ≡ None → length (trail_of g.notes t0 (suc (moments n))) ≡ n + 1
+        many_at n low live =
+            let more = visit_more g.notes t0 (moments n) (s n).pc (visit_at n low live) in
+            omega (arith, more, ap length (all_follow.0 n low).holds.trail ∙ own_live s0 n live)
+
+        stop_by : (n : ℕ) → last ≡ suc n → (s n).ending ≡ None → Tells n m
+            → ((t m).ending ≢ None → node_at g.notes (t m).pc ≢ None) → IsStop (edit_in g) entry s0 t0 m last
+        stop_by n v live tells placed =
+            let one : n ≡ last - 1 = omega (arith, v) in
+            record { some = λ _. omega (arith, v); lives = λ _. rw one at live; tells = rw one at tells; placed = placed }
+
+        -- before what answers a step
+        before_next : (n : ℕ) → n ≤ last → m < moments n → IsStop (edit_in g) entry s0 t0 m last
+        before_next zero l low =
+            let early = r.early m (rw begins at low) in
+            record {
+              some = λ some. absurd (some early.2);
+              lives = λ some. absurd (some early.2);
+              tells = λ some. absurd (some early.2);
+              placed = λ over. absurd (over early.0);
+            }
+        before_next (suc n) l low = elim (cases_lt m (moments n)) [
+          | inl below ↦ before_next n (omega (arith, l)) below
+          | inr from ↦ elim (over_or_not (s n).ending) [
+            | inl live ↦
+                -- behind the visit of a step, and before the next one
+                let visit = visit_at n (omega (arith, l)) live in
+                let quiet = ((step n l).goes live).quiet in
+                let same = ap length (quiet_trail g.notes t0 (suc (moments n)) (suc m) (omega (arith, from))
+                (λ j a b. (quiet j a (omega (arith, b, low))).1)) in
+                stop_by n (omega (arith, all, many_at n (omega (arith, l)) live, same)) live ((step n l).between m from low)
+                (λ over. absurd (over (elim (cases_lt (moments n) m) [
+                  | inl behind ↦ (quiet m behind low).0
+                  | inr here ↦
+                      let e : moments n ≡ m = omega (arith, from, here) in
+                      rw e at (visit_lives g.notes (t (moments n)) (s n).pc visit)
+                ])))
+            | inr over ↦ absurd (omega (arith, (step n l).stays over.0 over.1, from, low))
+          ]
+        ]
+
+        -- at the end
+        at_end : (n : ℕ) → last ≡ n → moments last ≤ m → (d : Ending) → (s last).ending ≡ Some d
+            → IsStop (edit_in g) entry s0 t0 m last
+        at_end zero v from d over = absurd (let e : s0.ending ≡ Some d = ap (λ z. (s z).ending) (sym v) ∙ over in cc (e, r.first.live))
+        at_end (suc n) v from d over =
+            let now = moment last (omega arith) in
+            let ends = ending g.notes s0 t0 last (moments last) (s last).ending d over now.matches in
+            let there : (t (moments last)).ending ≡ Some d = ends.ending ∙ over in
+            let same : t m ≡ t (moments last) = stays t0 (moments last) m d from there in
+            let ended = rw v at over in
+            let trail = trail_stays g.notes t0 (moments last) (suc m) d (omega (arith, from)) there in
+            let long : length (own_trail s0 last) ≡ last = cc (trail, (all_follow.0 last (omega arith)).holds.trail, all) in
+            let live = long_lives s0 n (rw v at long) in
+            let node = now.over (λ none. absurd (cc)) in
+            stop_by n v live (λ placed.
+            let told = subst (TellsStep (edit_in g) entry s0 t0 (moments last)) v (now.told (λ none. placed (cc (same, none)))) in
+            record {
+              cells = cc (same, told.cells, (ended_same n d ended).1);
+              node = cc (same, told.node, (ended_same n d ended).2);
+              address = λ place is. told.address place (rw same at is) ∙ step_stays (s n) d live ended;
+            }) (λ _ none. absurd (cc (same, node, none)))
+
+        stop_is : IsStop (edit_in g) entry s0 t0 m last
+        stop_is = elim (cases_lt m (moments last)) [
+          | inl low ↦ before_next last (omega arith) low
+          | inr from ↦ elim (over_or_not (s last).ending) [
+            | inl live ↦
+                let more = longer g.notes t0 (suc (moments last)) (suc m) (omega (arith, from)) in
+                absurd (omega (arith, many_at last (omega arith) live, more, all))
+            | inr over ↦ at_end last refl from over.0 over.1
+          ]
+        ]
+
+      answered : Answered g entry NoLongForms s0 t0 last
+      answered = record {
+        moments = moments;
+        answers = all_follow.0;
+        soon = all_follow.1;
+        bounded = all_follow.2;
+        spared = λ n below m i first next.
+            let a = all_follow.0 n (omega (arith, below)) in
+            let b = all_follow.0 (suc n) (omega (arith, below)) in
+            let now : moments n ≡ m = omega (arith, a.least m first.holds, first.least (moments n) a.holds) in
+            let then : moments (suc n) ≡ i = omega (arith, b.least i next.holds, next.least (moments (suc n)) b.holds) in
+            rw (now, then) at (step n below).spared;
         cells = λ n l. (moment n l).cells;
-        spared = λ n l. (stepped n l).spared;
-        early = λ m l. (r.early m l).2;
-        told = λ n l. (moment n l).told;
-        between = λ n m l a b. (stepped n l).between m a b;
+        stops = λ m visits. stop_is m visits;
         over = λ n l. (moment n l).over;
       }
 
--- there is one first moment
-one_least : (P : ℕ → Type 0) (m k : ℕ) → IsLeast P m → IsLeast P k → m ≡ k
-one_least P m k h i =
-    let below : m ≤ k = h.least k i.holds in
-    let above : k ≤ m = i.least m h.holds in
-    omega arith
-
 pub edits_answer : EditsAnswer
 edits_answer g l base p place f entry s0 t0 last r u =
-    let k : Follows g entry (HasShortForms l.list place) s0 t0 last = follows g entry (IsOffPages g)
-    (AtVisit g l base p f) (HasShortForms l.list place) (KeptIn g entry s0) s0 t0 r last u (λ k below live. u.outside k below) in
-    let all = runs_follow g.notes s0 t0 64 (limits_in g entry s0) k.moments last k.followed in
-    record {
-      moments = k.moments;
-      answers = all.0;
-      soon = all.1;
-      bounded = all.2;
-      spared = λ n below m i first next.
-          rw (one_least (Answers g.notes s0 t0 n) (k.moments n) m (all.0 n (omega (arith, below))) first) at
-          (rw (one_least (Answers g.notes s0 t0 (suc n)) (k.moments (suc n)) i
-          (all.0 (suc n) (omega (arith, below))) next) at
-          (k.spared n below));
-      cells = k.cells;
-      stops = λ m visits. stop_is g entry (HasShortForms l.list place) s0 t0 last r.first.live k all.0 m visits;
-      over = k.over;
-    }
+    answered g entry (IsOffPages g) (AtVisit g l base p f) (HasShortForms l.list place) (KeptIn g entry s0) s0 t0 r last u
+    (λ k below live. u.outside k below)

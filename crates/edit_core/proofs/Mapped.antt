@@ -1,15 +1,11 @@
 -- The words of the code in the memory of a written file.
-use Rattle.edit_core.proofs.Common.{◌≡◌, ℕ, zero, suc, ◌+◌, ◌-◌, ◌*◌, ◌^◌, ◌<◌, ◌≤◌, Bool, false, ◌&&◌, nat_le, List, [], ◌∷◌, ◌++◌, length, drop, map, slice_index, Some, None, refl, ap, ◌∙◌, arith, All, find, le-leb, lt-leb, find-append, nat_tests, big_number, big_bytes, ProgramHeader, program_headers, loadable, Mapping, mapping_of, mappings, image_of, segment_of, words_bytes, kept, max, fold, drop-append-add, big_number-reads_back, segment_end, word_mapped, if_any}
-use Rattle.edit_core.proofs.Fronts.{passed, past_any}
+use Rattle.edit_core.proofs.Common.{◌≡◌, ℕ, zero, suc, ◌+◌, ◌-◌, ◌*◌, ◌^◌, ◌<◌, ◌≤◌, Bool, ◌&&◌, nat_le, List, [], ◌∷◌, ◌++◌, length, drop, map, slice_index, Some, None, refl, arith, All, find, le-leb, lt-leb, find-append, nat_tests, big_number, ProgramHeader, program_headers, loadable, Mapping, mapping_of, mappings, image_of, segment_of, words_bytes, kept, max, fold, big_number-reads_back, segment_end, word_mapped, if_any}
+use Rattle.std.proofs.Math.Bool.{and-false}
+use Rattle.elf32_write.proofs.Loads.{ends-below}
+use Rattle.edit_core.proofs.Fronts.{past_any}
 
 abbrev covers : ℕ → Mapping → Bool
 covers address m = nat_le m.start address && nat_le (address + 4) (m.start + m.length)
-
--- the greatest end is not below what it began with
-end_from : (hs : List ProgramHeader) (n : ℕ) → n ≤ fold (λ end segment. max end (segment_end segment)) n
-    (map segment_of hs)
-end_from [] n = omega arith
-end_from (h ∷ hs) n = let later = end_from hs (max n (h.p_vaddr + h.p_memsz)) in omega arith
 
 -- no entry below an address covers it
 none_covers : (file : List ℕ) (hs : List ProgramHeader) (n address : ℕ)
@@ -17,10 +13,9 @@ none_covers : (file : List ℕ) (hs : List ProgramHeader) (n address : ℕ)
     → find (covers address) (map kept (map (mapping_of file) hs)) ≡ None
 none_covers file [] n address above = refl
 none_covers file (h ∷ hs) n address above =
-    let below : h.p_vaddr + h.p_memsz < address + 4 = omega (arith, end_from hs (max n (h.p_vaddr + h.p_memsz))) in
-    passed (nat_le h.p_vaddr address) (nat_le (address + 4) (h.p_vaddr + h.p_memsz)) (kept (mapping_of file h))
-    (find (covers address) (map kept (map (mapping_of file) hs))) (lt-leb (address + 4) (h.p_vaddr + h.p_memsz) below)
-    ∙ none_covers file hs (max n (h.p_vaddr + h.p_memsz)) address above
+    let top = (ends-below hs (max n (h.p_vaddr + h.p_memsz)) address above).0 in
+    rw (lt-leb (address + 4) (h.p_vaddr + h.p_memsz) (omega arith), and-false (nat_le h.p_vaddr address))
+    (none_covers file hs (max n (h.p_vaddr + h.p_memsz)) address above)
 
 pub original_covers : (original : List ℕ) (address : ℕ) → (image_of original).base ≤ address
     → find (covers address) (map kept (mappings original)) ≡ None
@@ -35,14 +30,8 @@ unfolding words_bytes
 word_among [] word inside all = absurd (omega arith)
 word_among (w ∷ words) zero inside all = big_number-reads_back 4 w (words_bytes words) (all zero w (omega arith))
 word_among (w ∷ words) (suc word) inside all =
-    ap (λ at. big_number 4 (drop at (big_bytes 4 w ++ words_bytes words))) (omega arith)
-    ∙ ap (big_number 4) (drop-append-add (big_bytes 4 w) (words_bytes words) (4 * word))
-    ∙ word_among words word (omega arith) (λ k d below. all (suc k) d (omega arith))
-
--- cells below an address don't cover it
-pub cells_pass : (count : ℕ) (cells : Mapping) (address : ℕ) → cells.start + cells.length ≤ address
-    → (0 < count → covers address cells ≡ false)
-cells_pass count cells address below some = grind (arith, nat_tests)
+    let e : 4 * suc word ≡ suc (suc (suc (suc (4 * word)))) = omega arith in
+    cc (e, word_among words word (omega arith) (λ k d below. all (suc k) d (omega arith)))
 
 -- the words of code that is mapped above the original and the cells, right behind a table
 pub code_mapped : (original file : List ℕ) (words : List ℕ) (count : ℕ) (cells table code : Mapping) (more : List Mapping)
@@ -58,9 +47,9 @@ code_mapped original file words count cells table code more all fits base before
       all,
       find-append (covers address) (map kept (mappings original)),
       original_covers original address (omega arith),
-      past_any (covers address) count cells (table ∷ code ∷ more) (cells_pass count cells address (omega arith)),
-      passed (nat_le table.start address) (nat_le (address + 4) (table.start + table.length)) table
-          (find (covers address) (code ∷ more)) (lt-leb (address + 4) (table.start + table.length) (omega arith)),
+      past_any (covers address) count cells (table ∷ code ∷ more) (λ some. grind (arith, nat_tests)),
+      lt-leb (address + 4) (table.start + table.length) (omega arith),
+      and-false (nat_le table.start address),
       le-leb code.start address (omega arith),
       le-leb (address + 4) (code.start + code.length) (omega arith),
     ) refl in

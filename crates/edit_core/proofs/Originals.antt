@@ -1,5 +1,5 @@
 -- What a file that can be edited has, and how many bytes its tables have at most.
-use Rattle.edit_core.proofs.Common.{◌≡◌, ℕ, ◌+◌, ◌-◌, ◌*◌, ◌^◌, ◌≤◌, min, List, map, Option, Some, None, refl, arith, IsText, ProgramHeader, program_headers, loadable, fault, segment_of, highest_end, image_of, accepted, length, Words, halves_size, ◌/◌, option_map_or, text_header, Accepted, IsFit, has_text, text_is_fit, cells_size, tables_size}
+use Rattle.edit_core.proofs.Common.{◌≡◌, ℕ, ◌+◌, ◌-◌, ◌*◌, ◌^◌, ◌≤◌, min, List, Option, Some, None, refl, arith, IsText, ProgramHeader, program_headers, fault, highest_end, image_of, accepted, length, Words, option_map_or, text_header, Accepted, IsFit, has_text, text_is_fit, cells_size, tables_size}
 use Rattle.elf32_sparc.specs.Image.{text_from, text_of, no_text}
 
 text_is : (file : List ℕ) → Accepted file → (found : Option ProgramHeader) → text_header (program_headers file) ≡ found
@@ -18,20 +18,10 @@ image_room file = refl
 -- the base is not below the end of any segment
 pub base_above : (file : List ℕ) → highest_end (image_of file).segments ≤ (image_of file).base
 unfolding image_of
-base_above file = rounded (highest_end (map segment_of (loadable (program_headers file))))
-  where
-    rounded : (end : ℕ) → end ≤ (end + 0xffff) / 0x10000 * 0x10000
-    rounded end = omega arith
-
-second_small : (t : Words) → IsText t → halves_size t ≤ 397312 + 4 * length t.words
-second_small t text =
-    let few = text.few in
-    omega arith
+base_above file = omega arith
 
 pub small_tables : (t : Words) → IsText t → tables_size t ≤ 425984 + 8 * length t.words
-small_tables t text =
-    let second = second_small t text in
-    omega arith
+small_tables t text = omega (arith, text.few)
 
 -- so they do with the words behind them that have the pieces of Case edges, in whole pages: one for each entry of a table,
 -- and no word of the text stands in two

@@ -1,212 +1,118 @@
 -- Of a faithful edit all can be seen from outside that its original shows.
-use Rattle.edit_core.proofs.Common.{◌≡◌, ℕ, suc, ◌+◌, ◌-◌, ◌^◌, ◌&&◌, not, ◌≤◌, inl, inr, true, false, List, [], ◌∷◌, ◌++◌, length, map, Some, None, refl, ap, sym, ◌∙◌, arith, append-nil, list_any, and_parts, or_parts, nat_tests, map-append, map-map, Notes, NoteSegment, ProgramHeader, loadable, program_headers, image_of, Mapping, mapping_of, mappings, kept, region_of, Span, IsApart, IsApartFromAll, AllApart, Ending, State, AreBytes, run, run_puts, puts_nothing, stays_ended, Answers, pages_of, own_trail, trail_of, IsUntouched, Each, AreArguments, program_name, stack_region, start_memory, start_of, Plan, append_assoc, has_memory_outside_a_run, is_last_page, leaves_room, load_fault, loadable_file, are_apart, heap_span, is_apart, is_apart_from, span_of, span_of_mapping, page_of, lived_to, HasPages, IsFaithful, note_of, EditsAreUntouched, EditsCrashAlike, EditsDoTheSame, GrantedRunsAreAlike, AreRunsAlike, edit_of}
+use Rattle.edit_core.proofs.Common.{◌≡◌, ℕ, suc, ◌+◌, ◌&&◌, not, ◌≤◌, inl, inr, true, false, List, [], ◌∷◌, ◌++◌, length, map, Some, None, refl, ap, sym, ◌∙◌, arith, append-nil, list_any, and_parts, or_parts, nat_tests, map-append, map-map, Notes, ProgramHeader, loadable, program_headers, mapping_of, mappings, kept, region_of, Span, IsApart, IsApartFromAll, AllApart, State, AreBytes, run, run_puts, puts_nothing, stays_ended, Answers, pages_of, own_trail, trail_of, IsUntouched, AreArguments, program_name, stack_region, start_memory, start_of, Plan, append_assoc, has_memory_outside_a_run, is_last_page, leaves_room, load_fault, loadable_file, are_apart, heap_span, is_apart, is_apart_from, span_of, span_of_mapping, page_of, lived_to, HasPages, IsFaithful, note_of, EditsAreUntouched, EditsCrashAlike, EditsDoTheSame, GrantedRunsAreAlike}
 use Rattle.v8_step.specs.declared.Ending.TheVariants.{Exit}
 use Rattle.two_runs.specs.Refused.{HasBuffers, IsGranted, is_refusal}
 use Rattle.two_runs.specs.Code.{IsUnmapped}
 use Rattle.two_runs.proofs.Unmapped.{granted_is_untouched, unmapped_is_untouched}
 use Rattle.v8_process.proofs.Loading.{mapped_apart}
-use Rattle.edit_core.specs.Outwardly.{LooksAs, RunsLike}
+use Rattle.edit_core.specs.Code.{above_first_page}
+use Rattle.edit_core.specs.Outwardly.{LooksAs}
 use Rattle.edit_core.proofs.Trails.{visit_lives, ending, few_visits, from_on, going, over_or_not, own_live, stays}
 
 -- ---- spans of which no two have a common address
 
-turned : (x y : Span) → is_apart x y ≡ true → IsApart y x
-turned x y h = grind (arith, nat_tests)
-
-straight : (x y : Span) → is_apart x y ≡ true → IsApart x y
-straight x y h = grind (arith, nat_tests)
-
-past : (x : Span) (ys zs : List Span) → is_apart_from x (ys ++ zs) ≡ true → is_apart_from x zs ≡ true
-past x [] zs h = h
-past x (y ∷ ys) zs h = past x ys zs (and_parts (is_apart x y) (is_apart_from x (ys ++ zs)) h).1
-
-beside : (x : Span) (ys zs : List Span) → is_apart_from x (ys ++ zs) ≡ true → IsApartFromAll ys x
-beside x [] zs h = tt
-beside x (y ∷ ys) zs h =
+beside : (x : Span) (xs ys zs : List Span) → is_apart_from x (xs ++ (ys ++ zs)) ≡ true → IsApartFromAll ys x
+beside x (w ∷ xs) ys zs h = beside x xs ys zs (and_parts (is_apart x w) (is_apart_from x (xs ++ (ys ++ zs))) h).1
+beside x [] [] zs h = tt
+beside x [] (y ∷ ys) zs h =
     let parts = and_parts (is_apart x y) (is_apart_from x (ys ++ zs)) h in
-    (turned x y parts.0, beside x ys zs parts.1)
+    (grind (arith, nat_tests, parts.0), beside x [] ys zs parts.1)
 
-before : (xs ys zs : List Span) → are_apart (xs ++ (ys ++ zs)) ≡ true → AllApart ys xs
-before [] ys zs h = tt
-before (x ∷ xs) ys zs h =
-    let parts = and_parts (is_apart_from x (xs ++ (ys ++ zs))) (are_apart (xs ++ (ys ++ zs))) h in
-    (beside x ys zs (past x xs (ys ++ zs) parts.0), before xs ys zs parts.1)
+between : (xs ys : List Span) (z : Span) → are_apart (xs ++ (ys ++ z ∷ [])) ≡ true → AllApart ys (xs ++ z ∷ [])
+between (x ∷ xs) ys z h =
+    let parts = and_parts (is_apart_from x (xs ++ (ys ++ z ∷ []))) (are_apart (xs ++ (ys ++ z ∷ []))) h in
+    (beside x xs ys (z ∷ []) parts.0, between xs ys z parts.1)
+between [] [] z h = (tt, tt)
+between [] (y ∷ ys) z h =
+    let parts = and_parts (is_apart_from y (ys ++ z ∷ [])) (are_apart (ys ++ z ∷ [])) h in
+    let last = beside y ys (z ∷ []) [] parts.0 in
+    ((grind (arith, last.0), (between [] ys z parts.1).0), tt)
 
-behind : (xs ys : List Span) → are_apart (xs ++ ys) ≡ true → are_apart ys ≡ true
-behind [] ys h = h
-behind (x ∷ xs) ys h = behind xs ys (and_parts (is_apart_from x (xs ++ ys)) (are_apart (xs ++ ys)) h).1
+-- ---- what is added lies behind the first page
 
-from_each : (xs : List Span) (y : Span) → are_apart (xs ++ y ∷ []) ≡ true → IsApartFromAll xs y
-from_each [] y h = tt
-from_each (x ∷ xs) y h =
-    let parts = and_parts (is_apart_from x (xs ++ y ∷ [])) (are_apart (xs ++ y ∷ [])) h in
-    let last = and_parts (is_apart x y) true (past x xs (y ∷ []) parts.0) in
-    (straight x y last.0, from_each xs y parts.1)
+-- what is apart from all addresses behind that page is apart from all that is mapped
+lower : (file : List ℕ) (hs : List ProgramHeader) (y : Span)
+    → list_any (λ h. leaves_room h && not (is_last_page h)) hs ≡ false → IsApart above_first_page y
+    → IsApartFromAll (map span_of_mapping (map (mapping_of file) hs)) y
+lower file [] y none apart = tt
+lower file (h ∷ hs) y none apart =
+    let parts = or_parts (leaves_room h && not (is_last_page h)) _ none in
+    (grind (arith, nat_tests, parts.0, apart), lower file hs y parts.1 apart)
 
-all_and : (pages xs : List Span) (y : Span) → AllApart pages xs → IsApartFromAll pages y → AllApart pages (xs ++ y ∷ [])
-all_and pages [] y h k = (k, tt)
-all_and pages (x ∷ xs) y h k = (h.0, all_and pages xs y h.1 k)
+rest : (xs ys : List Span) (y : Span) → IsApartFromAll (xs ++ ys) y → IsApartFromAll ys y
+rest [] ys y apart = apart
+rest (x ∷ xs) ys y apart = rest xs ys y apart.1
 
--- the regions of an original lie where its mappings do, as they are kept
-same_spans : (ms : List Mapping) → map span_of (map region_of ms) ≡ map span_of_mapping (map kept ms)
-same_spans [] = refl
-same_spans (m ∷ ms) = ap (λ z. span_of_mapping m ∷ z) (same_spans ms)
-
--- ---- what is added isn't mapped by the original
-
-noted_pages : (original file : List ℕ) (notes : Notes) → (has : HasPages original file notes)
-    → map span_of_mapping (has.room ++ has.editor ∷ []) ≡ pages_of notes
-noted_pages original file notes has =
-    sym (map-map page_of note_of (has.room ++ has.editor ∷ []))
-    ∙ ap (λ (segments : List NoteSegment). map page_of segments) has.noted
-
-unmapped : (original file : List ℕ) (notes : Notes) → HasPages original file notes
-    → load_fault file ≡ None → (texts : List (List ℕ)) → IsUnmapped (pages_of notes) (start_memory original texts)
-unmapped original file notes has loads texts = record {
-  start = refl;
-  room = omega arith;
-  apart = rw (map-append span_of (map region_of (mappings original)), same_spans (mappings original))
-      (all_and (pages_of notes) (heap_span ∷ olds) stack (before (heap_span ∷ olds) (pages_of notes) (stack ∷ []) apart)
-      (from_each (pages_of notes) stack (behind (heap_span ∷ olds) (pages_of notes ++ stack ∷ []) apart)));
-}
+module _ (original file : List ℕ) (notes : Notes) (has : HasPages original file notes) (loads : load_fault file ≡ None)
   where
-    olds : List Span
+    abbrev olds : List Span
     olds = map span_of_mapping (map kept (mappings original))
 
-    stack : Span
-    stack = span_of (stack_region texts)
+    spans : map span_of_mapping (mappings file) ≡ olds ++ pages_of notes
+    spans =
+        rw (has.mapped, map-append span_of_mapping (map kept (mappings original)), ← has.noted)
+        (ap (λ z. olds ++ z) (sym (map-map page_of note_of (has.room ++ has.editor ∷ []))))
 
-    apart : are_apart ((heap_span ∷ map span_of_mapping (map kept (mappings original)))
-        ++ (pages_of notes ++ span_of (stack_region texts) ∷ [])) ≡ true
-    apart =
+    -- what is added isn't mapped by the original
+    unmapped : (texts : List (List ℕ)) → IsUnmapped (pages_of notes) (start_memory original texts)
+    unmapped texts =
         let all = mapped_apart file (stack_region texts).bytes loads in
-        rw (
-          has.mapped,
-          map-append span_of_mapping (map kept (mappings original) ++ (has.room ++ has.editor ∷ [])),
-          map-append span_of_mapping (map kept (mappings original)),
-          noted_pages original file notes has,
-          append_assoc,
-        ) at all
+        let apart = between (heap_span ∷ olds) (pages_of notes) (span_of (stack_region texts))
+        (rw (map-append span_of_mapping (mappings file), spans, append_assoc) at all) in
+        let same : map span_of (map region_of (mappings original)) ≡ olds =
+        map-map span_of region_of (mappings original) ∙ sym (map-map span_of_mapping kept (mappings original)) in
+        let more = map-append span_of (map region_of (mappings original)) in
+        record { start = refl; room = omega arith; apart = rw (more, same) apart }
 
--- ---- nor has it a byte in the first page
+    pages_high : (y : Span) → IsApart above_first_page y → IsApartFromAll (pages_of notes) y
+    unfolding mappings has_memory_outside_a_run
+    pages_high y apart =
+        let all : IsApartFromAll (map span_of_mapping (mappings file)) y =
+        lower file (loadable (program_headers file)) y (loadable_file file loads).segment_room apart in
+        rest olds (pages_of notes) y (rw spans at all)
 
-abbrev IsHigh : Span → Type 0
-IsHigh p = (0x1000 ≤ p.from) × (p.from + p.count ≤ 2 ^ 32)
-
-high : (file : List ℕ) (h : ProgramHeader) → (leaves_room h && not (is_last_page h)) ≡ false
-    → IsHigh (span_of_mapping (mapping_of file h))
-high file h none = (low, end)
-  where
-    low : 0x1000 ≤ h.p_vaddr
-    low = grind (arith, nat_tests)
-
-    end : h.p_vaddr + h.p_memsz ≤ 2 ^ 32
-    end = grind (arith, nat_tests)
-
-each_high : (file : List ℕ) (hs : List ProgramHeader) → list_any (λ h. leaves_room h && not (is_last_page h)) hs ≡ false
-    → Each IsHigh (map span_of_mapping (map (mapping_of file) hs))
-each_high file [] none = tt
-each_high file (h ∷ hs) none = let parts = or_parts _ _ none in (high file h parts.0, each_high file hs parts.1)
-
-all_high : (file : List ℕ) → load_fault file ≡ None → Each IsHigh (map span_of_mapping (mappings file))
-unfolding mappings has_memory_outside_a_run
-all_high file loads = each_high file (loadable (program_headers file)) (loadable_file file loads).segment_room
-
-rest_high : (xs ys : List Span) → Each IsHigh (xs ++ ys) → Each IsHigh ys
-rest_high [] ys h = h
-rest_high (x ∷ xs) ys h = rest_high xs ys h.1
-
-pages_high : (original file : List ℕ) (notes : Notes) → HasPages original file notes
-    → load_fault file ≡ None → Each IsHigh (pages_of notes)
-pages_high original file notes has loads =
-    let all = all_high file loads in
-    rest_high (map span_of_mapping (map kept (mappings original))) (pages_of notes)
-    (rw (
-      has.mapped,
-      map-append span_of_mapping (map kept (mappings original)),
-      noted_pages original file notes has,
-    ) at all)
-
-lower : (p y : Span) → IsHigh p → IsApart (record { from = 0x1000; count = 2 ^ 32 - 0x1000 }) y → IsApart p y
-lower p y is apart = grind arith
-
-lower_each : (pages : List Span) (y : Span) → Each IsHigh pages
-    → IsApartFromAll (record { from = 0x1000; count = 2 ^ 32 - 0x1000 } ∷ []) y → IsApartFromAll pages y
-lower_each [] y are apart = tt
-lower_each (p ∷ pages) y are apart = (lower p y are.0 apart.0, lower_each pages y are.1 apart)
-
-lower_all : (pages ys : List Span) → Each IsHigh pages
-    → AllApart (record { from = 0x1000; count = 2 ^ 32 - 0x1000 } ∷ []) ys → AllApart pages ys
-lower_all pages [] are apart = tt
-lower_all pages (y ∷ ys) are apart = (lower_each pages y are apart.0, lower_all pages ys are apart.1)
+    all_high : (ys : List Span) → AllApart (above_first_page ∷ []) ys → AllApart (pages_of notes) ys
+    all_high [] apart = tt
+    all_high (y ∷ ys) apart = (pages_high y apart.0.0, all_high ys apart.1)
 
 -- ---- runs
 
--- a run that has ended puts nothing more out
-puts_stay : (t0 : State) (m k : ℕ) (d : Ending) (descriptor : ℕ) → m ≤ k → (run t0 m).ending ≡ Some d
-    → run_puts t0 k descriptor ≡ run_puts t0 m descriptor
-puts_stay t0 m k d descriptor below over =
-    from_on (λ k. run_puts t0 k descriptor ≡ run_puts t0 m descriptor) m refl
-    (λ k least same.
-    ap (λ (more : List ℕ). run_puts t0 k descriptor ++ more)
-    (puts_nothing (run t0 k) d descriptor (ap (λ (t : State). t.ending) (stays t0 m k d least over) ∙ over))
-    ∙ append-nil (run_puts t0 k descriptor) ∙ same) k below
-
 -- an answer shows what the original shows
-module _ (notes : Notes) (s0 t0 : State) (n m : ℕ) (answers : Answers notes s0 t0 n m) where
-  shown_live : (run s0 n).ending ≡ None → LooksAs s0 t0 n m
-  shown_live live =
+shown : (notes : Notes) (s0 t0 : State) (n m : ℕ) → Answers notes s0 t0 n m → (k : ℕ) × LooksAs s0 t0 n k
+shown notes s0 t0 n m answers = elim (over_or_not (run s0 n).ending) [
+  | inl live ↦
       let goes = going notes s0 t0 n m (run s0 n).ending live answers.matches in
+      let same : length (trail_of notes t0 m) ≡ length (own_trail s0 n) = ap (λ (l : List ℕ). length l) answers.trail in
+      let looks : LooksAs s0 t0 n m =
       record {
-        later =
-            let same : length (trail_of notes t0 m) ≡ length (own_trail s0 n) = ap (λ (l : List ℕ). length l) answers.trail in
-            omega (arith, same, own_live s0 n live, few_visits notes t0 m);
+        later = omega (arith, same, own_live s0 n live, few_visits notes t0 m);
         ending = visit_lives notes (run t0 m) (run s0 n).pc goes.visit ∙ sym live;
         output = λ descriptor. sym (goes.world.output descriptor);
-      }
-
-  shown_over : (d : Ending) → (run s0 n).ending ≡ Some d → LooksAs s0 t0 n (n + m)
-  shown_over d over =
-      let ends = ending notes s0 t0 n m (run s0 n).ending d over answers.matches in
-      let there : (run t0 m).ending ≡ Some d = ends.ending ∙ over in
+      } in
+      (m, looks)
+  | inr over ↦
+      let ends = ending notes s0 t0 n m (run s0 n).ending over.0 over.1 answers.matches in
+      let still : (k : ℕ) → m ≤ k → (run t0 k).ending ≡ (run t0 m).ending =
+      λ k least. ap (λ (t : State). t.ending) (stays t0 m k over.0 least (ends.ending ∙ over.1)) in
+      let looks : LooksAs s0 t0 n (n + m) =
       record {
         later = omega arith;
-        ending = ap (λ (t : State). t.ending) (stays t0 m (n + m) d (omega arith) there) ∙ ends.ending;
-        output = λ descriptor. puts_stay t0 m (n + m) d descriptor (omega arith) there ∙ sym (ends.world.output descriptor);
-      }
+        ending = still (n + m) (omega arith) ∙ ends.ending;
+        output = λ descriptor. from_on (λ k. run_puts t0 k descriptor ≡ run_puts t0 m descriptor) m refl
+            (λ k least same. ap (λ (more : List ℕ). run_puts t0 k descriptor ++ more)
+            (puts_nothing (run t0 k) over.0 descriptor (still k least ∙ ends.ending ∙ over.1)) ∙ append-nil _ ∙ same)
+            (n + m) (omega arith) ∙ sym (ends.world.output descriptor);
+      } in
+      (n + m, looks)
+]
 
-  shown : (k : ℕ) × LooksAs s0 t0 n k
-  shown = elim (over_or_not (run s0 n).ending) [
-    | inl live ↦ (m, shown_live live)
-    | inr over ↦ (n + m, shown_over over.0 over.1)
-  ]
-
--- ---- runs that are granted their accesses
-
-module _ (s0 : State) where
-  pub exit_granted : (n status : ℕ) → HasBuffers s0 n → (run s0 n).ending ≡ Some (Exit status) → IsGranted s0 n
-  exit_granted n status buffers over =
-      let last : (run s0 (suc n)).ending ≡ Some (Exit status) =
-      ap (λ (t : State). t.ending) (stays_ended (run s0 n) (Exit status) over) ∙ over in
-      record { accesses = ap is_refusal over; fetch = λ trapped. absurd (cc); buffers = buffers }
-
-  live_granted : (n : ℕ) → HasBuffers s0 n → ((k : ℕ) → (run s0 k).ending ≡ None) → IsGranted s0 n
-  live_granted n buffers live =
-      let next : (run s0 (suc n)).ending ≡ None = live (suc n) in
-      record { accesses = ap is_refusal (live n); fetch = λ trapped. absurd (cc); buffers = buffers }
-
--- what follows where each granted moment is shown
-module _ (s0 t0 : State) (stands : (n : ℕ) → IsGranted s0 n → (m : ℕ) × LooksAs s0 t0 n m) where
-  runs_like : RunsLike s0 t0
-  runs_like = record {
-    exits = λ n status buffers over. stands n (exit_granted s0 n status buffers over);
-    endless = λ buffers live. (
-      λ m. let there = stands m (live_granted s0 m (buffers m) live) in
-          lived_to t0 m there.0 there.1.later (there.1.ending ∙ live m),
-      λ n. stands n (live_granted s0 n (buffers n) live),
-    );
-    stands = stands;
-  }
+-- a run that has ended by `exit` is granted its accesses
+pub exit_granted : (s0 : State) (n status : ℕ) → HasBuffers s0 n → (run s0 n).ending ≡ Some (Exit status)
+    → IsGranted s0 n
+exit_granted s0 n status buffers over =
+    let last : (run s0 (suc n)).ending ≡ Some (Exit status) =
+    ap (λ (t : State). t.ending) (stays_ended (run s0 n) (Exit status) over) ∙ over in
+    record { accesses = ap is_refusal over; fetch = λ trapped. absurd (cc); buffers = buffers }
 
 pub edits_are_untouched : EditsAreUntouched
 unfolding start_of
@@ -216,29 +122,31 @@ edits_are_untouched original plan file faithful args input n granted =
 
 module _ (original : List ℕ) (plan : Plan) (file : List ℕ) (faithful : IsFaithful original plan file)
     (args : List (List ℕ)) (input : List ℕ) (given : AreArguments args) (read : AreBytes input) where
-  abbrev s0 : State
-  s0 = start_of original args input
-
-  abbrev t0 : State
-  t0 = start_of file args input
-
-  alike : AreRunsAlike (edit_of original plan faithful.notes) (image_of original).entry s0 t0
-  alike = faithful.runs args input given read
-
-  comes_to : (n : ℕ) → IsUntouched (pages_of faithful.notes) s0 n → (m : ℕ) × LooksAs s0 t0 n m
+  comes_to : (n : ℕ) → IsUntouched (pages_of faithful.notes) (start_of original args input) n
+      → (m : ℕ) × LooksAs (start_of original args input) (start_of file args input) n m
   comes_to n untouched =
-      let answered = alike.answered n untouched in
-      shown faithful.notes s0 t0 n answered.moment answered.first.holds
+      let answered = (faithful.runs args input given read).answered n untouched in
+      shown faithful.notes _ _ n answered.moment answered.first.holds
 
 pub does_the_same : EditsDoTheSame
 does_the_same original plan file faithful args input given read =
-    runs_like (start_of original args input) (start_of file args input)
-    (λ n granted. comes_to original plan file faithful args input given read n
-    (edits_are_untouched original plan file faithful args input n granted))
+    let s0 = start_of original args input in
+    let t0 = start_of file args input in
+    let stands : (n : ℕ) → IsGranted s0 n → (m : ℕ) × LooksAs s0 t0 n m = λ n granted.
+    comes_to original plan file faithful args input given read n
+    (edits_are_untouched original plan file faithful args input n granted) in
+    record {
+      exits = λ n status buffers over. stands n (exit_granted s0 n status buffers over);
+      endless = λ buffers live.
+          let all = λ (n : ℕ). let next : (run s0 (suc n)).ending ≡ None = live (suc n) in
+          stands n (record { accesses = ap is_refusal (live n); fetch = λ trapped. absurd (cc); buffers = buffers n }) in
+          (λ m. lived_to t0 m (all m).0 (all m).1.later ((all m).1.ending ∙ live m), all);
+      stands = stands;
+    }
 
 pub granted_runs_are_alike : GrantedRunsAreAlike
 granted_runs_are_alike original plan file is args input given read =
-    let its = alike original plan file is.faithful args input given read in
+    let its = is.faithful.runs args input given read in
     let untouched = edits_are_untouched original plan file is.faithful args input in
     record {
       answered = λ n granted. its.answered n (untouched n granted);
@@ -249,11 +157,11 @@ granted_runs_are_alike original plan file is args input given read =
 pub crash_alike : EditsCrashAlike
 unfolding start_of
 crash_alike original plan file faithful args input given read n refused =
-    let pages = pages_of faithful.notes in
-    let are = pages_high original file faithful.notes faithful.pages faithful.whole.loads in
+    let pages = faithful.pages in
+    let loads = faithful.whole.loads in
     comes_to original plan file faithful args input given read n
-    (unmapped_is_untouched pages (start_of original args input) n refl
-    (unmapped original file faithful.notes faithful.pages faithful.whole.loads (program_name ∷ args)) (record {
-      outside = λ k below live none. lower_each pages _ are (refused.outside k below live none);
-      unjudged = λ k below is. lower_all pages _ are (refused.unjudged k below is);
+    (unmapped_is_untouched (pages_of faithful.notes) (start_of original args input) n refl
+    (unmapped original file faithful.notes pages loads (program_name ∷ args)) (record {
+      outside = λ k below live none. pages_high original file _ pages loads _ (refused.outside k below live none).0;
+      unjudged = λ k below is. all_high original file _ pages loads _ (refused.unjudged k below is);
     }))

@@ -1,79 +1,63 @@
 -- The code of good snippets.
-use Rattle.edit_core.proofs.Common.{◌≡◌, ℕ, suc, ◌*◌, ◌%◌, ◌^◌, ◌<◌, ◌≤◌, inl, inr, List, [], ◌∷◌, length, get_or, arith, All, cases_lt, get_or_past, length-map, Part, Op, Count, WorksBelow, WorksIn, named_by, cells_end, cell_at, codes_of, snippet_on, IsGood, Add, Put, Keep, Top, Log, cell_of, AreShort}
+use Rattle.edit_core.proofs.Common.{◌≡◌, ℕ, suc, ◌*◌, ◌%◌, ◌^◌, ◌<◌, ◌≤◌, inl, inr, List, [], ◌∷◌, length, get_or, arith, All, cases_lt, get_or_past, length-map, Part, Op, WorksBelow, WorksIn, named_by, cells_end, cell_at, codes_of, snippet_on, IsGood, Log, cell_of, AreShort}
 use Rattle.v8_encode.specs.Encoding.{word_of}
 use Rattle.snippet_code.specs.Code.{IsCellOf}
-use Rattle.snippet_code.specs.Laws.{CanExpand, EndLow, HasBits}
+use Rattle.snippet_code.specs.Laws.{HasBits}
 use Rattle.snippet_code.specs.Runs.{DoesJust}
 use Rattle.snippet_code.specs.Words.{snippet_words}
 use Rattle.snippet_code.specs.Spills.{spills_of}
 use Rattle.snippet_code.proofs.Lengths.{costs_hold}
 use Rattle.snippet_code.proofs.WholeCode.{snippet_code_runs}
 
--- no operation is good
-none_good : (cells : ℕ) → IsGood cells []
-none_good cells = record {
-  few = omega arith;
-  are_ops = λ k d l. absurd (omega (arith, l));
-  below = λ k d l. absurd (omega (arith, l));
-}
-
 -- the snippet on each edge is good, by whatever number
 pub good_on : (cells : ℕ) (snips : List (List Op)) → All (IsGood cells) snips → (edge : ℕ)
     → IsGood cells (snippet_on snips edge)
 good_on cells snips good edge = elim (cases_lt edge (length snips)) [
   | inl within ↦ good edge [] within
-  | inr past ↦ rw (get_or_past snips edge [] past) (none_good cells)
+  | inr past ↦
+      let none = get_or_past snips edge [] past in
+      rw none (record {
+        few = omega arith;
+        are_ops = λ k d l. absurd (omega (arith, l));
+        below = λ k d l. absurd (omega (arith, l));
+      })
 ]
 
--- a ring has its bits
-has_bits : (cells : ℕ) (op : Op) → WorksIn cells op → HasBits op
-has_bits cells (Log cell bits value) works = (works.0, works.1)
-has_bits cells _ works = tt
-
--- an operation's cells end at or below their number
-ends_within : (cells : ℕ) (op : Op) → WorksIn cells op → cells_end op ≤ cells
-ends_within cells (Log cell bits value) works = works.2
-ends_within cells _ works = works
+-- a ring has its bits, and an operation's cells end at or below their number
+in_cells : (cells : ℕ) (op : Op) → WorksIn cells op → HasBits op × (cells_end op ≤ cells)
+in_cells cells (Log cell bits value) works = ((works.0, works.1), works.2)
+in_cells cells _ works = (tt, works)
 
 -- and begin below it
 pub begins_within : (cells : ℕ) (op : Op) → WorksIn cells op → cell_of op < cells
-begins_within cells (Add cell amount) works = omega (arith, works)
-begins_within cells (Put cell value) works = omega (arith, works)
-begins_within cells (Keep cell reg) works = omega (arith, works)
-begins_within cells (Top cell reg) works = omega (arith, works)
-begins_within cells (Count cell) works = omega (arith, works)
-begins_within cells (Log cell bits value) works = omega (arith, works.2)
+begins_within cells op works = let end = (in_cells cells op works).1 in grind arith
 
 -- a good snippet works on cells that there are
-pub cells_in_range : (cells : ℕ) (ops : List Op) → IsGood cells ops → (cell : ℕ) → IsCellOf ops cell → cell < cells
-cells_in_range cells ops good cell is = by ops good.below cell is
-  where
-    by : (ops : List Op) → WorksBelow cells ops → (cell : ℕ) → IsCellOf ops cell → cell < cells
-    by [] below cell is = absurd is
-    by (op ∷ ops) below cell (inl inside) =
-        let end = ends_within cells op (below 0 op (omega arith)) in omega (arith, inside.1, end)
-    by (op ∷ ops) below cell (inr is) = by ops (λ k d l. below (suc k) d (omega (arith, l))) cell is
+pub cells_in_range : (cells : ℕ) (ops : List Op) → WorksBelow cells ops → (cell : ℕ) → IsCellOf ops cell → cell < cells
+cells_in_range cells [] below cell is = absurd is
+cells_in_range cells (op ∷ ops) below cell (inl inside) =
+    let end = (in_cells cells op (below 0 op (omega arith))).1 in omega (arith, inside.1, end)
+cells_in_range cells (op ∷ ops) below cell (inr is) =
+    cells_in_range cells ops (λ k d l. below (suc k) d (omega (arith, l))) cell is
 
-module _ (base cells : ℕ) (aligned : base % 4 ≡ 0) (low : cell_at base cells ≤ 2 ^ 31) where
-  pub ends_low : (ops : List Op) → IsGood cells ops → EndLow base ops
-  ends_low ops good = λ k d l.
-      let op = get_or ops k d in
-      let works : WorksIn cells op = good.below k d l in
-      let end = ends_within cells op works in
-      record { bits = has_bits cells op works; end = omega (arith, end, low) }
-
-  can_expand : (ops : List Op) → IsGood cells ops → CanExpand base ops
-  can_expand ops good =
-      record { aligned = aligned; few = good.few; are_ops = good.are_ops; low = ends_low ops good }
-
-  -- its words do just the snippet
-  pub snippet_does : (dead : ℕ → List Part) (snips : List (List Op)) → All (IsGood cells) snips → (edge : ℕ)
-      → DoesJust (codes_of base dead snips edge) base (dead edge)
-      (spills_of (dead edge) (named_by (snippet_on snips edge)) (snippet_on snips edge)) (snippet_on snips edge)
-  unfolding codes_of
-  snippet_does dead snips good edge =
-      (snippet_code_runs base (dead edge) (snippet_on snips edge)
-      (can_expand (snippet_on snips edge) (good_on cells snips good edge))).1
+-- its words do just the snippet
+pub snippet_does : (base cells : ℕ) → base % 4 ≡ 0 → cell_at base cells ≤ 2 ^ 31 → (dead : ℕ → List Part)
+    → (snips : List (List Op)) → All (IsGood cells) snips → (edge : ℕ)
+    → DoesJust (codes_of base dead snips edge) base (dead edge)
+    (spills_of (dead edge) (named_by (snippet_on snips edge)) (snippet_on snips edge)) (snippet_on snips edge)
+unfolding codes_of
+snippet_does base cells aligned low dead snips good edge =
+    let ops = snippet_on snips edge in
+    let is = good_on cells snips good edge in
+    (snippet_code_runs base (dead edge) ops (record {
+      aligned = aligned;
+      few = is.few;
+      are_ops = is.are_ops;
+      low = λ k d l.
+          let works = in_cells cells (get_or ops k d) (is.below k d l) in
+          let end = works.1 in
+          record { bits = works.0; end = omega (arith, end, low) };
+    })).1
 
 -- they are few
 pub code_short : (base : ℕ) (dead : ℕ → List Part) (snips : List (List Op)) (edge : ℕ)

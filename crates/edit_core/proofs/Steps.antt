@@ -1,11 +1,11 @@
 -- What the parts of an edit give it.
-use Rattle.edit_core.proofs.Common.{◌≡◌, ℕ, ◌+◌, ◌-◌, ◌*◌, ◌^◌, ◌<◌, ◌≤◌, min, List, [], ◌∷◌, ◌++◌, length, refl, arith, All, slice_index, length-map, IsText, Words, Program, image_of, accepted-program, Part, Graph, AddedSegment, TableAt, Item, Placement, long_bytes, long_is_enough, AreFit, PiecesFit, case_numbers, codes_of, Op, Plan, Err, ArePieces, Request, CanEdit, HasRoom, IsBuilt, IsViewOf, placement_in, plan_of}
+use Rattle.edit_core.proofs.Common.{◌≡◌, ℕ, ◌+◌, ◌^◌, ◌<◌, ◌≤◌, List, [], ◌∷◌, ◌++◌, length, arith, All, slice_index, length-map, IsText, Words, Program, accepted-program, Part, Graph, AddedSegment, TableAt, Item, Placement, long_bytes, long_is_enough, AreFit, PiecesFit, case_numbers, Op, Plan, Err, ArePieces, Request, CanEdit, HasRoom, IsBuilt, IsViewOf, placement_in, plan_of}
 use Rattle.elf32_write.specs.Laws.{AreBytes}
 use Rattle.layout.specs.declared.items.Placed.{Placed}
 use Rattle.layout.specs.declared.items.LayoutFault.{LayoutFault}
 use Rattle.layout.specs.declared.items.LayoutFault.TheVariants.{Room}
 use Rattle.layout.specs.Compact.{RoomIs}
-use Rattle.edit_core.specs.Written.{added, cells_at, code_at, if_any, page_segment, table_at, CanDo, IsNewCode, TablesMatch, cases_at, cells_base, cells_size, entry_number, entry_of, graph_in, pieces_by, pieces_of, segment_size, table_after, table_base, tables_size, text_of}
+use Rattle.edit_core.specs.Written.{added, cells_at, code_at, if_any, page_segment, table_at, CanDo, IsNewCode, TablesMatch, cells_base, cells_size, entry_number, entry_of, graph_in, pieces_by, pieces_of, segment_size, table_after, table_base, tables_size, text_of}
 use Rattle.edit_core.proofs.Bounds.{operations_few}
 use Rattle.edit_core.proofs.Graphs.{entries_few, graph_cut, graph_is}
 use Rattle.edit_core.proofs.Originals.{room_with_cases, small_tables, image_text, image_room}
@@ -24,16 +24,8 @@ pub original_fit : PiecesFit → (original : List ℕ) (plan : Plan) → CanEdit
     → (dead : ℕ → List Part)
     → AreFit (text_of original plan) (graph_in original plan) plan.snips (pieces_of original plan dead)
 original_fit fits original plan can work dead =
-    fits (text_of original plan) (graph_in original plan) (table_base original plan)
-    (cases_at (text_of original plan) (table_base original plan)) plan.snips
-    (codes_of (cells_base original plan) dead plan.snips) (image_text original can.sound) (graph_is original plan)
-    (under (cells_base original plan) (image_of original).room plan.cells (length (text_of original plan).words) _
-    (image_room original) work.few can.room)
-    (short_codes (cells_base original plan) plan.cells dead plan.snips work.good)
-  where
-    under : (base room cells words more : ℕ) → room ≡ min (2 ^ 30) (0x80000000 - base) → cells ≤ 2 ^ 23
-        → 2 ^ 20 + 512 * words + 4 * cells + 128 * more ≤ room → table_after base cells < 2 ^ 31
-    under base room cells words more same few enough = omega arith
+    fits _ _ (table_base original plan) _ _ _ (image_text original can.sound) (graph_is original plan)
+    (omega (arith, image_room original, work.few, can.room)) (short_codes _ plan.cells dead plan.snips work.good)
 
 -- the pieces that are made of a view can be placed in its room
 module _ (fits : PiecesFit) {image : Program} {graph : Graph} {request : Request} (can : HasRoom image graph request)
@@ -43,9 +35,7 @@ module _ (fits : PiecesFit) {image : Program} {graph : Graph} {request : Request
 
   pub new_fit : AreFit image.text graph request.snips.items new_pieces
   new_fit =
-      fits image.text graph (table_after image.base request.cells)
-      (cases_at image.text (table_after image.base request.cells)) request.snips.items
-      (codes_of image.base dead request.snips.items) can.text can.graph (omega (arith, can.room, can.low))
+      fits _ _ (table_after image.base request.cells) _ _ _ can.text can.graph (omega (arith, can.room, can.low))
       (short_codes image.base request.cells dead request.snips.items can.work.good)
 
   pub new_room : cells_size request.cells + segment_size image.text graph + long_bytes new_pieces ≤ image.room
@@ -66,24 +56,16 @@ segment_is text graph snips p table leads =
 -- ---- an original as it was seen
 
 module _ (original : List ℕ) (plan : Plan) (image : Program) (graph : Graph) (is : IsViewOf original plan image graph) where
-  -- what is true of the one is true of the other
-  seen : (P : Program → Graph → Type 0) → P (image_of original) (graph_in original plan) → P image graph
-  seen P true_there = rw is.0 (rw is.1 true_there)
-
-  there : (P : Program → Graph → Type 0) → P image graph → P (image_of original) (graph_in original plan)
-  there P true_here = rw is.1 at (rw is.0 at true_here)
-
   pub view_text : CanEdit original plan → IsText image.text
-  view_text can = seen (λ i g. IsText i.text) (image_text original can.sound)
+  view_text can = rw is.0 (image_text original can.sound)
 
   pub view_words : CanEdit original plan → graph.blocks.words ≡ length image.text.words
-  view_words can = seen (λ i g. g.blocks.words ≡ length i.text.words)
+  view_words can = rw (is.0, is.1)
       (graph_cut (text_of original plan) (graph_in original plan) (image_text original can.sound) (graph_is original plan)).words
 
   -- the piece at which it begins
-  pub view_entry : (p : Placement)
-      → slice_index p.at (entry_number image.text graph image.entry) ≡ entry_of original plan p
-  view_entry p = seen (λ i g. slice_index p.at (entry_number i.text g i.entry) ≡ entry_of original plan p) refl
+  pub view_entry : (p : Placement) → slice_index p.at (entry_number image.text graph image.entry) ≡ entry_of original plan p
+  view_entry p = rw (is.0, is.1)
 
   module _ (placed : Placed) (tables : List ℕ)
       (built : IsBuilt image.text graph image.base plan.cells plan.snips (placement_in placed))
@@ -92,23 +74,15 @@ module _ (original : List ℕ) (plan : Plan) (image : Program) (graph : Graph) (
     where
       pub built_there : IsBuilt (text_of original plan) (graph_in original plan) (cells_base original plan) plan.cells
           plan.snips (placement_in placed)
-      built_there = there (λ i g. IsBuilt i.text g i.base plan.cells plan.snips (placement_in placed)) built
+      built_there = rw (is.0, is.1) at built
 
       pub code_is : All (λ word. word < 2 ^ 32) placed.code.items → AreBytes tables
           → IsNewCode original plan (placement_in placed) built_there.place
           (record { base = table_base original plan; bytes = tables })
-      code_is words bytes = record {
-        dead = built_there.dead;
-        exact = built_there.exact;
-        laid = built_there.are.laid;
-        size = built_there.are.size;
-        short = built_there.are.short;
-        words = words;
-        base = refl;
-        leads = there (λ i g. TablesMatch i.text g plan.snips (placement_in placed)
-            (record { base = table_after i.base plan.cells; bytes = tables })) leads;
-        bytes = bytes;
-      }
+      code_is words bytes =
+          let b = built_there in
+          let leads = rw (is.0, is.1) at leads in
+          search (b.dead, b.exact, b.are.laid, b.are.size, b.are.short, words, leads, bytes)
 
       -- the segments that are added
       pub segments_are : (segments : List AddedSegment) → segments ≡ if_any plan.cells (cells_at image.base plan.cells)
@@ -116,28 +90,24 @@ module _ (original : List ℕ) (plan : Plan) (image : Program) (graph : Graph) (
           ∷ code_at (table_after image.base plan.cells + length tables) placed.code.items ∷ page_segment ∷ []
           → segments ≡ added original plan (placement_in placed)
           (record { base = table_base original plan; bytes = tables })
-      segments_are segments same = there (λ i g. segments ≡ if_any plan.cells (cells_at i.base plan.cells)
-          ++ table_at (record { base = table_after i.base plan.cells; bytes = tables })
-          ∷ code_at (table_after i.base plan.cells + segment_size i.text g) placed.code.items ∷ page_segment ∷ [])
-          (cc (same, segment_is image.text graph plan.snips (placement_in placed) _ leads))
+      segments_are segments same =
+          let here : segments ≡ if_any plan.cells (cells_at image.base plan.cells)
+          ++ table_at (record { base = table_after image.base plan.cells; bytes = tables })
+          ∷ code_at (table_after image.base plan.cells + segment_size image.text graph) placed.code.items ∷ page_segment ∷ [] =
+          cc (same, segment_is image.text graph plan.snips (placement_in placed) _ leads) in
+          rw (is.0, is.1) at here
 
 -- there is room for what is asked of an original that can be edited
 pub view_has_room : (original marks : List ℕ) (request : Request) (image : Program) (graph : Graph)
     → IsViewOf original (plan_of marks request) image graph → CanEdit original (plan_of marks request)
     → CanDo original (plan_of marks request) → HasRoom image graph request
 view_has_room original marks request image graph is can work =
-    seen original plan image graph is (λ i g. HasRoom i g request) (record {
+    let plan = plan_of marks request in
+    rw (is.0, is.1) (record {
       text = image_text original can.sound;
       graph = graph_is original plan;
       work = work;
       room = rw (bound_is original plan) at can.room;
       base = let base = (accepted-program original can.sound).base in omega arith;
-      low = within (image_of original).base (image_of original).room (image_room original)
-          (accepted-program original can.sound).below;
+      low = omega (arith, image_room original, (accepted-program original can.sound).below);
     })
-  where
-    plan : Plan
-    plan = plan_of marks request
-
-    within : (base room : ℕ) → room ≡ min (2 ^ 30) (0x80000000 - base) → base ≤ 0x80000000 → base + room ≤ 2 ^ 31
-    within base room same below = omega arith

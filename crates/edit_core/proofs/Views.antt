@@ -1,10 +1,6 @@
 -- What the view of a file has.
-use Rattle.edit_core.proofs.Common.{◌≡◌, ℕ, ◌≤◌, List, None, refl, sym, ap, ◌∙◌, fault, image_of, entered_of, Graph, Seen, view_of, Plan, CanEdit, bound_in, bound_of, IsViewOf}
+use Rattle.edit_core.proofs.Common.{◌≡◌, ℕ, ◌≤◌, List, None, refl, sym, ap, fault, image_of, entered_of, Graph, Seen, view_of, Plan, CanEdit, bound_in, bound_of, IsViewOf}
 use Rattle.edit_core.specs.Written.{CanDo, IsWorkable, graph_in}
-
-pub view_image : (file marks : List ℕ) → (view_of file marks).image ≡ image_of file
-unfolding view_of
-view_image file marks = refl
 
 pub view_graph : (file : List ℕ) (plan : Plan) → (view_of file plan.marks).graph ≡ graph_in file plan
 unfolding view_of entered_of
@@ -13,13 +9,12 @@ view_graph file plan = refl
 -- what was seen of a file
 module _ (file : List ℕ) (plan : Plan) (view : Seen) (is : view ≡ view_of file plan.marks) where
   pub view_is : IsViewOf file plan view.image view.graph
-  view_is = (
-    ap (λ (v : Seen). v.image) is ∙ view_image file plan.marks,
-    ap (λ (v : Seen). v.graph) is ∙ view_graph file plan,
-  )
+  unfolding view_of entered_of
+  view_is = rw is (refl, refl)
 
   pub view_bound : bound_of view.image.text view.graph plan ≡ bound_in file plan
-  view_bound = cc (is, view_image file plan.marks)
+  unfolding view_of
+  view_bound = rw is refl
 
   -- it can be edited, where there is room
   pub can_edit : None ≡ fault file → bound_of view.image.text view.graph plan ≤ view.image.room → CanEdit file plan

@@ -50,7 +50,7 @@ pub use Rattle.std.specs.List.{All, list_any, sum_by, sum, AllByRecursion, count
 pub use Rattle.std.specs.Option.{is_some}
 pub use Rattle.tool_kit.specs.Plans.{AreCounters, Plan, counter_op}
 pub use Rattle.two_runs.specs.Needed.{IsUntouched}
-pub use Rattle.two_runs.specs.Visits.{pages_of, trail_of}
+pub use Rattle.two_runs.specs.Visits.{pages_of}
 unfoldable pub use Rattle.v8_process.specs.Start.{start_of}
 pub use Rattle.v8_step.specs.Run.{run}
 pub use Rattle.v8_step.specs.State.{State, AreBytes, register_of}

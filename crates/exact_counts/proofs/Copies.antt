@@ -97,9 +97,7 @@ abbrev IsPlain : Way → Type 0
 IsPlain w = (same_kind w.kind kinds.Land ≡ false) × (same_kind w.kind kinds.Case ≡ false)
 
 ways_are_plain : (count word : ℕ) (end : BlockEnd) → Each IsPlain (ways_of count word end)
-ways_are_plain count word (ends.Branch c annul target) =
-    cond_both (c == always) _ _ (Each IsPlain) (λ _. ((refl, refl), tt)) (λ _. cond_both (c == never) _ _ (Each IsPlain)
-    (λ _. ((refl, refl), tt)) (λ _. ((refl, refl), ((refl, refl), tt))))
+ways_are_plain count word (ends.Branch c annul target) = grind (arith, cond_both, always, never)
 ways_are_plain count word _ = ((refl, refl), tt)
 
 -- ---- sums over the edges of a graph

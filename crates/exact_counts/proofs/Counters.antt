@@ -1,5 +1,5 @@
 -- An edge's counter holds how often the edge was completed, in 32 bits or in 64.
-use Rattle.exact_counts.proofs.Common.{◌≡◌, ℕ, zero, suc, ◌+◌, ◌^◌, ◌<◌, ◌≤◌, inl, inr, cond, List, [], ◌∷◌, length, refl, ap, sym, ◌∙◌, arith, ◌==◌, All, cases_eq, cases_lt, eq-eqb, ne_eqb, counter_width, State, run, times, Op, WorksBelow, AreCounters, gone_in, walk, Edit, snippet_on, times-append, WorksIn, counter_op, counter_value, ◌%◌, replicate, ◌⊎◌, get_or-set_at, get_or-replicate, get_or-set_other, get_or_past, length-replicate, length-set, register_of, update, updated_by, store_of, updates, CellsCount, counter_limit}
+use Rattle.exact_counts.proofs.Common.{◌≡◌, ℕ, zero, suc, ◌+◌, ◌^◌, ◌<◌, ◌≤◌, inl, inr, cond, List, [], ◌∷◌, length, refl, ap, sym, ◌∙◌, arith, ◌==◌, All, cases_eq, cases_lt, eq-eqb, ne_eqb, counter_width, State, run, times, Op, WorksBelow, AreCounters, gone_in, walk, Edit, snippet_on, times-append, WorksIn, counter_op, counter_value, ◌%◌, replicate, ◌⊎◌, get_or-set_at, get_or-replicate, get_or-set_other, get_or_past, length-replicate, length-set, register_of, update, updated_by, store_of, updates, CellsCount, counter_limit, nat_tests}
 use Rattle.snippets.specs.declared.snippet.Op.TheVariants.{Add}
 use Rattle.snippets.specs.Ops.{cell_of, cells_end}
 
@@ -64,8 +64,7 @@ module _ (version : ℕ) where
   none_or_counter next [] e are = inl (get_or_past {X = List Op} [] e [] (omega arith))
   none_or_counter next ([] ∷ snips) zero are = inl refl
   none_or_counter next ([] ∷ snips) (suc e) are = none_or_counter next snips e are
-  none_or_counter next ((op ∷ []) ∷ snips) zero are =
-      inr (record { cell = next; from = omega arith; is = ap (λ (o : Op). o ∷ []) are.0 })
+  none_or_counter next ((op ∷ []) ∷ snips) zero are = grind (arith, nat_tests)
   none_or_counter next ((op ∷ []) ∷ snips) (suc e) are = elim (none_or_counter (cells_end op) snips e are.1) [
     | inl none ↦ inl none
     | inr some ↦
@@ -74,9 +73,7 @@ module _ (version : ℕ) where
   none_or_counter next ((op ∷ other ∷ ops) ∷ snips) e are = absurd are
 
   same_cell : (a b : ℕ) → counter a ≡ counter b → a ≡ b
-  same_cell a b e =
-      let same : counter_op version a ≡ counter_op version b = cc in
-      sym (counter_cell version a) ∙ ap cell_of same ∙ counter_cell version b
+  same_cell a b e = grind (arith, nat_tests)
 
   not_empty : (cell : ℕ) → [] ≡ counter cell → ⊥
   not_empty cell e = cc

@@ -18,8 +18,7 @@ module _ (g : Edit) (entry : ℕ) (s0 t0 : State) (m : ℕ) (d : Ending)
   -- the original has ended too: else the written file would have a visit more
   has_ended : IsAnswered g entry s0 t0 v → (run s0 v).ending ≡ None → ⊥
   has_ended a live =
-      let on = going g.notes s0 t0 v a.moment (run s0 v).ending live a.first.holds.matches in
-      let visit = on.visit in
+      let visit = (going g.notes s0 t0 v a.moment (run s0 v).ending live a.first.holds.matches).visit in
       elim (cases_lt a.moment m) [
         | inl before ↦ omega (
           arith,
@@ -28,8 +27,7 @@ module _ (g : Edit) (entry : ℕ) (s0 t0 : State) (m : ℕ) (d : Ending)
           longer g.notes t0 (suc a.moment) (suc m) (omega (arith, before)),
         )
         | inr past ↦
-            let none = none_over g.notes t0 a.moment d (rw (stays t0 m a.moment d past over) over) in
-            cc (none, visit)
+            cc (none_over g.notes t0 a.moment d (rw (stays t0 m a.moment d past over) over), visit)
       ]
 
   -- so both have ended alike

@@ -1,5 +1,5 @@
 -- What is rebuilt from the dump of a run, wherever it is stopped, is how often the original's run completes each edge.
-use Rattle.exact_counts.proofs.Common.{pages_of, IsUntouched, ◌≡◌, ℕ, suc, ◌-◌, ◌<◌, true, List, length, None, refl, ap, sym, ◌∙◌, arith, pos, lt-ltb, fault, image_of, Notes, State, start_of, IsFlow, blocks_of, entered_of, cut, Plan, links_of, executions, Edit, edit_of, visits_by, image_text, few_visits, view_graph, noted_graph, ◌≢◌, ◌^◌, inl, inr, false, slice_index, Option, Some, ℤ, false≢true, Ending, run, has_cell, leb-true, AreBytes, holding_of, IsStop, TellsStep, node_behind, HasGraph, tool_number, is_counter, CountsOffTree, original_graph, counter_limit, IsExact, IsProfiled, CountsAreExact, MayRefuse, length-map-range_with_len, node_at, AgreeOn, IsFlowTo, StandsAt, cell_counts, IsProfile}
+use Rattle.exact_counts.proofs.Common.{pages_of, IsUntouched, ◌≡◌, ℕ, suc, ◌-◌, ◌<◌, true, List, length, None, refl, ap, sym, ◌∙◌, arith, pos, lt-ltb, fault, image_of, Notes, State, start_of, IsFlow, blocks_of, entered_of, cut, Plan, links_of, executions, Edit, edit_of, visits_by, image_text, few_visits, view_graph, noted_graph, ◌≢◌, ◌^◌, inl, inr, false, slice_index, Option, Some, ℤ, false≢true, Ending, run, has_cell, leb-true, AreBytes, holding_of, IsStop, TellsStep, node_behind, HasGraph, tool_number, is_counter, CountsOffTree, original_graph, counter_limit, IsExact, IsProfiled, CountsAreExact, MayRefuse, length-map-range_with_len, node_at, AgreeOn, IsFlowTo, StandsAt, cell_counts, IsProfile, nat_tests}
 use Rattle.elf32_sparc.proofs.Accepted.{accepted}
 use Rattle.v8_process.specs.Arguments.{AreArguments}
 use Rattle.v8_process.proofs.Arguments.{arguments_fit}
@@ -25,12 +25,7 @@ begins_live file args input = refl
 pub notes_of_graph : (original : List ℕ) (plan : Plan) (notes : Notes)
     → CountsOffTree notes.version (original_graph original plan) plan → HasGraph original plan notes
     → AreNotesOf (original_graph original plan) plan.snips notes
-notes_of_graph original plan notes counts has = record {
-  blocks = has.blocks;
-  edges = rw counts.kind at has.edges;
-  size = counts.size;
-  places = has.places;
-}
+notes_of_graph original plan notes counts has = grind (arith, nat_tests)
 
 module _ (original : List ℕ) (plan : Plan) (file : List ℕ) (notes : Notes) (args : List (List ℕ)) (input : List ℕ) (m : ℕ)
     (is : IsProfiled original plan file notes) (given : AreArguments args) (read : AreBytes input) where

@@ -15,8 +15,7 @@ module _ (text : Words) (graph : Graph) where
   completed_few : (es : List ℕ) → Completes graph es → AreFew edges es
   completed_few _ none = record { few = omega arith; within = tt; once = λ e. omega arith }
   completed_few _ (one x l) = record { few = omega arith; within = (l, tt); once = λ e. grind (arith, nat_tests) }
-  completed_few _ (two x y l unknown k apart) =
-      record { few = omega arith; within = (l, (k, tt)); once = λ e. grind (arith, nat_tests) }
+  completed_few _ (two x y l unknown k apart) = grind (arith, nat_tests)
 
   pub step_few : (entry : ℕ) (s0 : State) (n : ℕ) → AreFew edges (gone_in text graph entry s0 n)
   step_few entry s0 n =

@@ -15,10 +15,7 @@ one_each graph (edge ∷ edges) (ops ∷ snips) =
 
 pub edges_few : (original : List ℕ) (plan : Plan) → fault original ≡ None
     → length (original_graph original plan).edges ≤ 4 * length (image_of original).text.words
-edges_few original plan sound =
-    let program : Program = image_of original in
-    rw (view_graph original plan)
-    (edges_in_all program.text (given_in program plan.marks) program.entry (image_text original sound))
+edges_few original plan sound = grind (arith, view_graph, edges_in_all, given_in, image_text)
 
 pub profiles_need_little : ProfilesNeedLittle
 profiles_need_little original plan sound kind cells =

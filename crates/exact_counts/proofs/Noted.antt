@@ -24,8 +24,7 @@ module _ (g h : PlainGraph) (alike : AreAlike g h) where
   same_sum : (one other : ℕ → ℕ) (x : ℕ → ℤ) (v : ℕ) → ((e : ℕ) → e < g.edges → one e ≡ other e)
       → total g.edges (λ e. if one e == v then x e else pos 0)
       ≡ total h.edges (λ e. if other e == v then x e else pos 0)
-  same_sum one other x v same =
-      rw (← alike.edges) (total_same g.edges _ _ (λ e l. rw (same e l) refl))
+  same_sum one other x v same = rw (← alike.edges) (total_same g.edges _ _ (λ e l. rw (same e l) refl))
 
   pub flow_alike : (a b : ℕ) (x : ℕ → ℤ) → IsFlow g a b x → IsFlow h a b x
   flow_alike a b x flow v l =

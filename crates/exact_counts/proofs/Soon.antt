@@ -1,5 +1,5 @@
 -- A profile's runs end soon after the original's.
-use Rattle.exact_counts.proofs.Common.{◌≡◌, ℕ, zero, suc, ◌+◌, ◌*◌, ◌≤◌, inl, inr, List, [], ◌∷◌, length, Some, ◌∙◌, arith, Notes, State, run, IsUntouched, pages_of, gone_in, AreCounters, Edit, AreRunsAlike, over_or_not, ending, operations_on, ProfilesEndSoon}
+use Rattle.exact_counts.proofs.Common.{◌≡◌, ℕ, zero, suc, ◌+◌, ◌*◌, ◌≤◌, inl, inr, List, [], ◌∷◌, length, Some, ◌∙◌, arith, Notes, State, run, IsUntouched, pages_of, gone_in, AreCounters, Edit, AreRunsAlike, over_or_not, ending, operations_on, ProfilesEndSoon, nat_tests}
 use Rattle.edit_core.specs.Cost.{TakesFewSteps}
 use Rattle.exact_counts.proofs.Counters.{none_or_counter}
 use Rattle.exact_counts.proofs.Gone.{step_few}
@@ -7,10 +7,7 @@ use Rattle.exact_counts.proofs.Gone.{step_few}
 -- fewer steps touch no page either
 pub fewer : (notes : Notes) (s0 : State) (k n : ℕ) → k ≤ n → IsUntouched (pages_of notes) s0 n
     → IsUntouched (pages_of notes) s0 k
-fewer notes s0 k n below h = record {
-  outside = λ j l. h.outside j (omega (arith, l, below));
-  unjudged = λ j l. h.unjudged j (omega (arith, l, below));
-}
+fewer notes s0 k n below h = grind (arith, nat_tests)
 
 module _ (version : ℕ) (g : Edit) (are : AreCounters version 0 g.snips) where
   few_operations : (es : List ℕ) → operations_on g.snips es ≤ length es

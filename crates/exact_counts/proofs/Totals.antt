@@ -14,8 +14,7 @@ one_below x zero = (λ h. refl, λ l. absurd (omega (arith, l)))
 one_below x (suc n) =
     let before = one_below x n in
     let none = before.0 in
-    let one = before.1 in
-    (λ h. grind (arith, nat_tests, none), λ l. grind (arith, nat_tests, none, one))
+    (λ h. grind (arith, nat_tests, none), λ l. grind (arith, nat_tests, none, before.1))
 
 -- each of some numbers is counted once
 times_all : (n : ℕ) (es : List ℕ) → Each (λ e. e < n) es → total (times es) n ≡ length es

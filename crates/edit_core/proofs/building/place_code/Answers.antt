@@ -14,7 +14,9 @@ returns-clause-leads c =
     c.place_of-foreign.ensures ∙ rw c.deref-5.ensures.value refl in
     let cases : c.deref-9.result.now ≡ map (λ (n : PieceNo). slice_index at n.0) c.args.made.now.cases.items =
     c.deref-9.ensures.value ∙ c.in_ok-cases.ensures ∙ rw (c.deref-6.ensures.value, c.deref-7.ensures.value) refl in
-    rw (← targets, ← foreign, ← cases, ← c.text-text.ensures, ← c.above-addresses.ensures.base, ← c.above-addresses.ensures.cells, ← c.table.ensures) c.in_ok-tables.ensures
+    let above = c.above-addresses.ensures in
+    rw (← targets, ← foreign, ← cases, ← c.text-text.ensures, ← above.base, ← above.cells, ← c.table.ensures)
+    c.in_ok-tables.ensures
 
 pub returns-clause-laid : goal.returns-clause-laid
 returns-clause-laid c =

@@ -1,4 +1,4 @@
-use Rattle.edit_core.proofs.Common.{◌^◌, ◌≤◌, ℕ, subst, sym, All, refl, IsGood}
+use Rattle.edit_core.proofs.Common.{refl}
 use Rattle.edit_core.proofs.editing.ask.Goals as goal
 
 pub returns-clause-plan : goal.returns-clause-plan
@@ -11,9 +11,8 @@ returns-clause-plan g c = record {
 
 pub returns-clause-work : goal.returns-clause-work
 returns-clause-work g c = record {
-  few = subst (λ (n : ℕ). n ≤ 2 ^ 23) (sym c.cells.ensures.cells) c.cells.ensures.sound.few;
+  few = rw c.cells.ensures.cells c.cells.ensures.sound.few;
   size = c.in_ok-snips.ensures.answers.size;
-  good = subst (λ (n : ℕ). All (IsGood n) c.in_ok-snips.field-0.items) (sym c.cells.ensures.cells)
-      c.in_ok-snips.ensures.good;
+  good = rw c.cells.ensures.cells c.in_ok-snips.ensures.good;
   counters = c.requires _ (returns-clause-plan g c);
 }

@@ -1,63 +1,65 @@
-use Rattle.edit_core.proofs.Common.{◌≡◌, refl, ap, ◌∙◌, subst, sym, arith, get_or_default_zero, Program, numbers, pieces_fit, pieces_make_images, places_say, IsEdited, bound_of, IsTheEdit, plan_of}
+use Rattle.edit_core.proofs.Common.{◌≡◌, refl, ap, ◌∙◌, subst, sym, arith, get_or_default_zero, Program, Seen, numbers, pieces_fit, pieces_make_images, places_say, IsEdited, bound_of, IsTheEdit, plan_of}
+use Rattle.tool_kit.specs.Code.{IsPlanOf}
 use Rattle.edit_core.proofs.Views.{can_edit, view_bound, view_can_do, view_is}
 use Rattle.edit_core.proofs.Edits.{edited}
 use Rattle.edit_core.proofs.Outwardly.{does_the_same}
 use Rattle.edit_core.proofs.RunsAlike.{edits_run_alike}
 use Rattle.edit_core.proofs.Steps.{original_fit}
-use Rattle.edit_core.proofs.Tools.{asks, counts}
 use Rattle.edit_core.proofs.editing.edit_view.Goals as goal
 
 pub ask-requires : goal.ask-requires
-ask-requires g c =
-    λ plan is. counts g.F.Chooser.says c.args.tool.now c.args.bytes.now _ c.requires.view plan c.requires.counters is
+ask-requires g c = λ plan is. c.requires.counters plan
+    (subst (λ (v : Seen). IsPlanOf g.F.Chooser.says c.args.tool.now v.graph.edges plan) c.requires.view is)
 
 pub returns-then-had-needed-clause-refused : goal.returns-then-had-needed-clause-refused
 returns-then-had-needed-clause-refused g c =
+    let view = c.requires.view in
     let plan = plan_of (numbers c.args.tool.now.marks) c.in_ok-request.request in (
       plan,
-      asks g.F.Chooser.says c.args.tool.now c.args.bytes.now _ c.requires.view plan c.in_ok-request.ensures.plan,
+      subst (λ (v : Seen). IsPlanOf g.F.Chooser.says c.args.tool.now v.graph.edges plan) view c.in_ok-request.ensures.plan,
       record {
         sound = c.requires.sound;
         needed_is = c.in_ok-needed.ensures ∙ rw (c.text-text.ensures, c.deref.ensures.value)
-            (view_bound c.args.bytes.now plan _ c.requires.view);
-        had_is = c.from-had.ensures ∙ c.room.ensures
-            ∙ ap (λ (i : Program). i.room) (view_is c.args.bytes.now plan _ c.requires.view).0;
+            (view_bound c.args.bytes.now plan _ view);
+        had_is = c.from-had.ensures ∙ c.room.ensures ∙ ap (λ (i : Program). i.room) (view_is c.args.bytes.now plan _ view).0;
         less = c.if-had-needed.true;
       },
     )
 
-pub write_edit-requires-clause-request : goal.write_edit-requires-clause-request
-write_edit-requires-clause-request g c =
+pub write_edit-requires : goal.write_edit-requires
+write_edit-requires g c =
     let plan = plan_of (numbers c.args.tool.now.marks) c.in_ok-request.request in
+    let view = c.requires.view in
     let needed : c.in_ok-needed.needed ≡ bound_of c.args.view.now.image.text c.args.view.now.graph plan =
     c.in_ok-needed.ensures ∙ rw (c.text-text.ensures, c.deref.ensures.value) refl in
-    let had = c.from-had.ensures ∙ c.room.ensures in (
-      numbers c.args.tool.now.marks,
-      view_is c.args.bytes.now plan _ c.requires.view,
-      can_edit c.args.bytes.now plan _ c.requires.view (sym c.requires.sound)
-          (omega (arith, needed, had, c.if-had-needed.false)),
-      view_can_do c.args.bytes.now plan _ c.requires.view c.in_ok-request.ensures.work,
-    )
+    let had = c.from-had.ensures ∙ c.room.ensures in
+    let low = c.if-had-needed.false in
+    let can = can_edit c.args.bytes.now plan _ view (sym c.requires.sound) (omega (arith, needed, had, low)) in
+    let work = view_can_do c.args.bytes.now plan _ view c.in_ok-request.ensures.work in
+    record {
+      limit = c.requires.limit;
+      request = (numbers c.args.tool.now.marks, view_is c.args.bytes.now plan _ view, can, work);
+    }
 
 pub returns-clause-edited : goal.returns-clause-edited
 unfolding IsTheEdit
 returns-clause-edited g c =
     let bytes = c.args.bytes.now in
+    let view = c.requires.view in
     let plan = plan_of (numbers c.args.tool.now.marks) c.in_ok-request.request in
     let needed : c.in_ok-needed.needed ≡ bound_of c.args.view.now.image.text c.args.view.now.graph plan =
     c.in_ok-needed.ensures ∙ rw (c.text-text.ensures, c.deref.ensures.value) refl in
     let had = c.from-had.ensures ∙ c.room.ensures in
-    let can = can_edit bytes plan _ c.requires.view (sym c.requires.sound)
-    (omega (arith, needed, had, c.if-had-needed.false)) in
-    let work = view_can_do bytes plan _ c.requires.view c.in_ok-request.ensures.work in
-    let written = c.in_ok-file.ensures (numbers c.args.tool.now.marks) (view_is bytes plan _ c.requires.view) in (
+    let low = c.if-had-needed.false in
+    let can = can_edit bytes plan _ view (sym c.requires.sound) (omega (arith, needed, had, low)) in
+    let work = view_can_do bytes plan _ view c.in_ok-request.ensures.work in
+    let written = c.in_ok-file.ensures (numbers c.args.tool.now.marks) (view_is bytes plan _ view) in (
       plan,
-      asks g.F.Chooser.says c.args.tool.now bytes _ c.requires.view plan c.in_ok-request.ensures.plan,
+      subst (λ (v : Seen). IsPlanOf g.F.Chooser.says c.args.tool.now v.graph.edges plan) view c.in_ok-request.ensures.plan,
       can,
       subst (IsEdited bytes plan) (sym written.is)
           (edited (edits_run_alike pieces_make_images pieces_fit) places_say bytes plan
-          (original_fit pieces_fit bytes plan can work)
-          c.requires.limit
+          (original_fit pieces_fit bytes plan can work) c.requires.limit
           (λ k d below. let same = get_or_default_zero bytes k d below in let fits = c.type_inv.bytes k in omega arith)
           can work written.p written.place written.table written.code),
       written,

@@ -1,4 +1,4 @@
-use Rattle.edit_core.proofs.Common.{ℕ, ◌+◌, ◌*◌, ◌^◌, ◌≤◌, List, length, refl, ap, ◌∙◌, arith, Words, Graph, Op, Placement, Notes, pieces_fit, IsBuilt, placement_in, plan_of, TablesMatch, table_after}
+use Rattle.edit_core.proofs.Common.{refl, ap, ◌∙◌, arith, Notes, pieces_fit, placement_in, plan_of}
 use Rattle.edit_core.proofs.Steps.{code_is, original_fit, segment_is, segments_are, view_entry, view_has_room, view_text, view_words}
 use Rattle.edit_core.proofs.Edits.{notes_meet_rules, can_be_written}
 use Rattle.edit_core.proofs.Noted.{rows_are}
@@ -9,97 +9,77 @@ new_code-requires c =
     view_has_room c.args.bytes.now c.requires.request.0 c.args.request c.args.image.now c.args.graph.now
     c.requires.request.1 c.requires.request.2 c.requires.request.3
 
-code_low : (text : Words) (graph : Graph) (base cells : ℕ) (snips : List (List Op)) (p : Placement) (tables : List ℕ)
-    → IsBuilt text graph base cells snips p
-    → TablesMatch text graph snips p (record { base = table_after base cells; bytes = tables })
-    → table_after base cells + length tables + 4 * length p.code ≤ 2 ^ 31
-code_low text graph base cells snips p tables built leads =
-    omega (arith, built.are.laid.low, segment_is text graph snips p _ leads)
+pub added_segments-requires : goal.added_segments-requires
+added_segments-requires c =
+    let built = c.in_ok-built.ensures in
+    let above = c.above-addresses.ensures in
+    let size = segment_is _ _ _ (placement_in c.in_ok-built.built.0.placed) _ built.leads in
+    record {
+      few = rw above.cells c.requires.request.3.few;
+      low = rw (above.base, above.cells) (omega (arith, built.built.are.laid.low, size));
+    }
 
-pub added_segments-requires-clause-few : goal.added_segments-requires-clause-few
-added_segments-requires-clause-few c = rw (c.above-addresses.ensures.cells) c.requires.request.3.few
-
-pub added_segments-requires-clause-low : goal.added_segments-requires-clause-low
-added_segments-requires-clause-low c =
+pub notes-requires : goal.notes-requires
+notes-requires c =
     let image = c.args.image.now in
-    rw (c.above-addresses.ensures.base, c.above-addresses.ensures.cells)
-    (code_low image.text c.args.graph.now image.base c.args.request.cells c.args.request.snips.items
-    (placement_in c.in_ok-built.built.0.placed) c.in_ok-built.built.0.tables.items c.in_ok-built.ensures.built
-    c.in_ok-built.ensures.leads)
-
-pub notes-requires-clause-words : goal.notes-requires-clause-words
-notes-requires-clause-words c =
     let plan = plan_of c.requires.request.0 c.args.request in
-    view_words _ plan c.args.image.now _ c.requires.request.1 c.requires.request.2
+    let built = c.in_ok-built.ensures in
+    let above = c.above-addresses.ensures in
+    let size = segment_is _ _ _ (placement_in c.in_ok-built.built.0.placed) _ built.leads in
+    record {
+      limit = c.requires.limit;
+      words = view_words _ plan image _ c.requires.request.1 c.requires.request.2;
+      text = view_text _ plan image c.args.graph.now c.requires.request.1 c.requires.request.2;
+      few = c.requires.request.3.few;
+      low = omega (arith, built.built.are.laid.low, size);
+      added = rw c.deref.ensures.value (rows_are image.base c.args.request.cells _ _ _ _
+          (rw (above.base, above.cells) at c.in_ok-added.ensures.segments) size);
+    }
 
-pub notes-requires-clause-text : goal.notes-requires-clause-text
-notes-requires-clause-text c =
-    let plan = plan_of c.requires.request.0 c.args.request in
-    view_text _ plan c.args.image.now c.args.graph.now c.requires.request.1 c.requires.request.2
-
-pub notes-requires-clause-low : goal.notes-requires-clause-low
-notes-requires-clause-low c =
-    let image = c.args.image.now in
-    let low = code_low image.text c.args.graph.now image.base c.args.request.cells c.args.request.snips.items
-    (placement_in c.in_ok-built.built.0.placed) c.in_ok-built.built.0.tables.items c.in_ok-built.ensures.built
-    c.in_ok-built.ensures.leads in
-    omega (arith, low)
-
-pub notes-requires-clause-added : goal.notes-requires-clause-added
-notes-requires-clause-added c =
-    let image = c.args.image.now in
-    rw c.deref.ensures.value (rows_are image.base c.args.request.cells _ c.in_ok-built.built.0.tables.items
-    c.in_ok-built.built.0.placed.code.items _
-    (rw (c.above-addresses.ensures.base, c.above-addresses.ensures.cells) at c.in_ok-added.ensures.segments)
-    (segment_is image.text c.args.graph.now c.args.request.snips.items (placement_in c.in_ok-built.built.0.placed) _
-    c.in_ok-built.ensures.leads))
-
-pub write_notes-requires-clause-notes : goal.write_notes-requires-clause-notes
-write_notes-requires-clause-notes c =
-    let plan = plan_of c.requires.request.0 c.args.request in
-    let code = code_is _ plan _ _ c.requires.request.1 c.in_ok-built.built.0.placed _ c.in_ok-built.ensures.built
-    c.in_ok-built.ensures.leads c.in_ok-added.ensures.code c.in_ok-added.ensures.tables in
-    rw (c.in_ok-noted.ensures c.requires.request.0 _ c.requires.request.1 c.in_ok-built.ensures.edges)
-    (notes_meet_rules c.args.bytes.now plan c.requires.limit c.requires.request.2 c.requires.request.3 _ _ _ code
-    (original_fit pieces_fit c.args.bytes.now plan c.requires.request.2 c.requires.request.3 code.dead))
-
-pub write_notes-requires-clause-version : goal.write_notes-requires-clause-version
-write_notes-requires-clause-version c =
-    ap (λ (n : Notes). n.version) (c.in_ok-noted.ensures c.requires.request.0 _ c.requires.request.1 c.in_ok-built.ensures.edges)
+pub write_notes-requires : goal.write_notes-requires
+write_notes-requires c =
+    let (marks, view, can, work) = c.requires.request in
+    let plan = plan_of marks c.args.request in
+    let built = c.in_ok-built.ensures in
+    let added = c.in_ok-added.ensures in
+    let code = code_is _ plan _ _ view c.in_ok-built.built.0.placed _ built.built built.leads added.code added.tables in
+    let noted = c.in_ok-noted.ensures marks _ view built.edges in
+    record {
+      notes = rw noted (notes_meet_rules c.args.bytes.now plan c.requires.limit can work _ _ _ code
+          (original_fit pieces_fit c.args.bytes.now plan can work code.dead));
+      version = ap (λ (n : Notes). n.version) noted;
+    }
 
 pub write_around-requires-clause-original : goal.write_around-requires-clause-original
 write_around-requires-clause-original c =
-    let plan = plan_of c.requires.request.0 c.args.request in
-    let code = code_is _ plan _ _ c.requires.request.1 c.in_ok-built.built.0.placed _ c.in_ok-built.ensures.built
-    c.in_ok-built.ensures.leads c.in_ok-added.ensures.code c.in_ok-added.ensures.tables in
-    rw (
-      c.deref-2.ensures.value,
-      segments_are _ plan _ _ c.requires.request.1 c.in_ok-built.built.0.placed _ c.in_ok-built.ensures.built
-          c.in_ok-built.ensures.leads _
-          (rw (c.above-addresses.ensures.base, c.above-addresses.ensures.cells) at c.in_ok-added.ensures.segments),
-      c.deref-3.ensures.value,
-      c.in_ok-notes.ensures,
-      c.in_ok-noted.ensures c.requires.request.0 _ c.requires.request.1 c.in_ok-built.ensures.edges,
-    ) (can_be_written c.args.bytes.now plan c.requires.limit c.requires.request.2 c.requires.request.3 _ _ _ code
-    (original_fit pieces_fit c.args.bytes.now plan c.requires.request.2 c.requires.request.3 code.dead))
+    let (marks, view, can, work) = c.requires.request in
+    let plan = plan_of marks c.args.request in
+    let built = c.in_ok-built.ensures in
+    let added = c.in_ok-added.ensures in
+    let above = c.above-addresses.ensures in
+    let code = code_is _ plan _ _ view c.in_ok-built.built.0.placed _ built.built built.leads added.code added.tables in
+    let segments = segments_are _ plan _ _ view c.in_ok-built.built.0.placed _ built.built built.leads _
+    (rw (above.base, above.cells) at added.segments) in
+    let noted = c.in_ok-noted.ensures marks _ view built.edges in
+    rw (c.deref-2.ensures.value, segments, c.deref-3.ensures.value, c.in_ok-notes.ensures, noted)
+    (can_be_written c.args.bytes.now plan c.requires.limit can work _ _ _ code
+    (original_fit pieces_fit c.args.bytes.now plan can work code.dead))
 
 pub returns : goal.returns
 returns c = λ marks view.
     let plan = plan_of marks c.args.request in
+    let built = c.in_ok-built.ensures in
+    let added = c.in_ok-added.ensures in
+    let above = c.above-addresses.ensures in
+    let segments = segments_are _ plan _ _ view c.in_ok-built.built.0.placed _ built.built built.leads _
+    (rw (above.base, above.cells) at added.segments) in
+    let noted = c.in_ok-noted.ensures marks _ view built.edges in
+    let entry = built.entry ∙ view_entry _ plan _ _ view (placement_in c.in_ok-built.built.0.placed) in
     record {
       p = _;
       place = _;
       table = _;
-      code = code_is _ plan _ _ view c.in_ok-built.built.0.placed _ c.in_ok-built.ensures.built c.in_ok-built.ensures.leads
-          c.in_ok-added.ensures.code c.in_ok-added.ensures.tables;
-      is = c.in_ok-file.ensures ∙ rw (
-        c.deref-2.ensures.value,
-        segments_are _ plan _ _ view c.in_ok-built.built.0.placed _ c.in_ok-built.ensures.built
-            c.in_ok-built.ensures.leads _
-            (rw (c.above-addresses.ensures.base, c.above-addresses.ensures.cells) at c.in_ok-added.ensures.segments),
-        c.deref-3.ensures.value,
-        c.in_ok-notes.ensures,
-        c.in_ok-noted.ensures marks _ view c.in_ok-built.ensures.edges,
-        c.in_ok-built.ensures.entry ∙ view_entry _ plan _ _ view (placement_in c.in_ok-built.built.0.placed),
-      ) refl;
+      code = code_is _ plan _ _ view c.in_ok-built.built.0.placed _ built.built built.leads added.code added.tables;
+      is = c.in_ok-file.ensures
+          ∙ rw (c.deref-2.ensures.value, segments, c.deref-3.ensures.value, c.in_ok-notes.ensures, noted, entry) refl;
     }
