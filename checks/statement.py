@@ -191,9 +191,11 @@ class Repository:
         self.top, self.items, self.modules = top, [], {}
         self.declared, self.passed_on, self.functions = defaultdict(dict), defaultdict(dict), {}
         self.crates = sorted(os.listdir(os.path.join(top, 'crates')))
-        for scope in self.scopes('specs', '.antt'):
-            self.modules['.'.join(['Rattle'] + re.sub(r'(/Lib)?\.antt$', '', scope.path).split('/')[1:])] = scope
-            self.read_specs(scope)
+        for folder in ('specs', 'proofs'):                  # of proofs, what they pass on
+            for scope in self.scopes(folder, '.antt'):
+                self.modules['.'.join(['Rattle'] + re.sub(r'(/Lib)?\.antt$', '', scope.path).split('/')[1:])] = scope
+                if folder == 'specs':
+                    self.read_specs(scope)
         for scope in self.scopes('src', '.rt'):
             self.read_source(scope)
         for item in self.items:
