@@ -1,5 +1,5 @@
 -- A built table of two levels finds every aligned address.
-use Rattle.addr_translate.proofs.Common.{◌≡◌, ℕ, ◌+◌, ◌-◌, ◌*◌, ◌/◌, ◌%◌, ◌^◌, ◌<◌, ◌≤◌, ◌⊎◌, inl, inr, Bool, true, false, None, List, length, map, refl, ap, sym, ◌∙◌, arith, if◌then◌else◌, nat_lt, range_with_len, nat_tests, length-map-range_with_len, Words, word_at, IsText, Addr, wrapped, table_word, TableAt, last_byte, target_of, target_for, IsHalvesOf, entry_at, first_half, halves_size, span_of, half_bytes, half_entry, half_word, half_words}
+use Rattle.addr_translate.proofs.Common.{◌≡◌, ℕ, ◌+◌, ◌-◌, ◌*◌, ◌/◌, ◌%◌, ◌^◌, ◌<◌, ◌≤◌, ◌⊎◌, inl, inr, true, false, None, List, length, map, refl, ap, sym, ◌∙◌, arith, nat_lt, range_with_len, nat_tests, length-map-range_with_len, Words, word_at, IsText, Addr, wrapped, table_word, TableAt, last_byte, target_of, target_for, IsHalvesOf, entry_at, first_half, halves_size, span_of, half_bytes, half_entry, half_word, half_words}
 use Rattle.addr_translate.specs.Private.{halves}
 use Rattle.addr_translate.proofs.Tables.{IsIn, IsOff, among, entry_found, length-words, outside}
 
@@ -47,12 +47,8 @@ module _ (t : Words) (targets : List Addr) (foreign : Addr) (base : ℕ) (text :
   half_is : (half : ℕ) → half < 2 ^ 16
       → table_word (half_table t targets foreign base) (base + 4 * half) ≡ half_word t base half
   unfolding half_entry
-  half_is half low = in_words half (omega arith) ∙ go (nat_lt half (2 ^ 16)) (grind (arith, nat_tests))
-    where
-      go : (b : Bool) → b ≡ true → (if b then half_word t base half else
-          target_of targets foreign (word_at t (2 ^ 16 * first_half t + 4 * (half - 2 ^ 16)))) ≡ half_word t base half
-      go true e = refl
-      go false e = absurd (cc)
+  half_is half low =
+      let first : nat_lt half (2 ^ 16) ≡ true = grind (arith, nat_tests) in in_words half (omega arith) ∙ rw first refl
 
   -- an entry
   entry_is : (k : ℕ) → k < (span_of t + 2 ^ 16) / 4 → (z : ℕ) → z ≡ base + 2 ^ 18 + 4 * k
@@ -60,18 +56,12 @@ module _ (t : Words) (targets : List Addr) (foreign : Addr) (base : ℕ) (text :
       ≡ target_of targets foreign (word_at t (2 ^ 16 * first_half t + 4 * k))
   unfolding half_entry
   entry_is k low z e =
+      let second : nat_lt (2 ^ 16 + k) (2 ^ 16) ≡ false = grind (arith, nat_tests) in
       ap (table_word (half_table t targets foreign base))
       (let f : z ≡ base + 4 * (2 ^ 16 + k) = omega arith in f)
-      ∙ in_words (2 ^ 16 + k) (omega arith)
-      ∙ go (nat_lt (2 ^ 16 + k) (2 ^ 16)) (grind (arith, nat_tests))
+      ∙ in_words (2 ^ 16 + k) (omega arith) ∙ rw second refl
       ∙ ap (λ n. target_of targets foreign (word_at t (2 ^ 16 * first_half t + 4 * n)))
       (let f : 2 ^ 16 + k - 2 ^ 16 ≡ k = omega arith in f)
-    where
-      go : (b : Bool) → b ≡ false → (if b then half_word t base (2 ^ 16 + k) else
-          target_of targets foreign (word_at t (2 ^ 16 * first_half t + 4 * (2 ^ 16 + k - 2 ^ 16))))
-          ≡ target_of targets foreign (word_at t (2 ^ 16 * first_half t + 4 * (2 ^ 16 + k - 2 ^ 16)))
-      go false e = refl
-      go true e = absurd (cc)
 
   -- the entry for an address
   record Entry (a : ℕ) : Type 0 where

@@ -1,5 +1,5 @@
 -- A built table finds every address.
-use Rattle.addr_translate.proofs.Common.{◌≡◌, ℕ, zero, suc, ◌+◌, ◌-◌, ◌*◌, ◌/◌, ◌%◌, ◌^◌, ◌<◌, ◌≤◌, ◌⊎◌, inl, inr, Bool, true, false, ◌&&◌, Some, None, List, [], ◌∷◌, ◌++◌, length, map, take, drop, refl, ap, sym, ◌∙◌, subst, arith, if◌then◌else◌, ◌==◌, nat_le, nat_lt, slice_index, w32, to_be_bytes, from_be_bytes, flat_map, range_with_len, nat_tests, length-map-range_with_len, get_or-map-range_with_len, map-range_with_len_more, Words, word_at, IsText, Addr, table_word, second_entry, third_entry, second_block, third_block, IsBlock, TableAt, first_part, parts, first_page, pages, blocks, size_of, target_of, target_for, IsTableOf, is_among, second_for, third_for, entry_in, entry, table_words, table_bytes}
+use Rattle.addr_translate.proofs.Common.{◌≡◌, ℕ, zero, suc, ◌+◌, ◌-◌, ◌*◌, ◌/◌, ◌%◌, ◌^◌, ◌<◌, ◌≤◌, ◌⊎◌, inl, inr, Bool, true, false, ◌&&◌, Some, None, List, [], ◌∷◌, ◌++◌, length, map, take, drop, refl, ap, sym, ◌∙◌, arith, if◌then◌else◌, ◌==◌, nat_le, nat_lt, slice_index, w32, to_be_bytes, from_be_bytes, flat_map, range_with_len, nat_tests, length-map-range_with_len, get_or-map-range_with_len, map-range_with_len_more, Words, word_at, IsText, Addr, table_word, second_entry, third_entry, second_block, third_block, IsBlock, TableAt, first_part, parts, first_page, pages, blocks, size_of, target_of, target_for, IsTableOf, is_among, second_for, third_for, entry_in, entry, table_words, table_bytes}
 use Rattle.std.proofs.lemmas.Nat.{from_be_bytes-to_be_bytes_4}
 use Rattle.std.proofs.lemmas.Grind.{flat_map-append}
 use Rattle.code_runs.proofs.Leads.{split_below}
@@ -21,11 +21,10 @@ more_entries f n w now new before is after =
 -- and it has 32 bits
 pub more_fit : (f : ℕ → ℕ) (n w k : ℕ) → ((k : ℕ) → k < n → f k < 2 ^ 32) → w ≡ f n → w < 2 ^ 32 → k < n + 1
     → f k < 2 ^ 32
-more_fit f n w k before is small h = go (split_below k n)
-  where
-    go : (k < n) ⊎ (n ≤ k) → f k < 2 ^ 32
-    go (inl low) = before k low
-    go (inr high) = subst (λ z. f z < 2 ^ 32) (let e : n ≡ k = omega arith in e) (subst (λ z. z < 2 ^ 32) is small)
+more_fit f n w k before is small h = elim (split_below k n) [
+  | inl low ↦ before k low
+  | inr high ↦ let e : k ≡ n = omega arith in rw (e, ← is) small
+]
 
 -- ---- a word among the bytes of words
 pub word_among : (ws : List ℕ) (n : ℕ) → n < length ws → slice_index ws n < 2 ^ 32
@@ -133,20 +132,11 @@ module _ (t : Words) (targets : List Addr) (foreign : Addr) (base : ℕ) (text :
       → entry_in t targets foreign base block place
       ≡ (if b then base + 4096 * third_for t (1024 * (first_part t + (block - 3)) + place)
       else target_of targets foreign (word_at t (4096 * (first_page t + (block - 3 - parts t)) + 4 * place)))
-  later block place b low e = go (block == 0) (block == 1) (block == 2) refl refl refl
-    where
-      go : (x y z : Bool) → (block == 0) ≡ x → (block == 1) ≡ y → (block == 2) ≡ z
-          → (if x then base + 4096 * second_for t place else if y then base + 4096 * 2 else if z then foreign.0 else
-          if nat_lt block (3 + parts t) then base + 4096 * third_for t (1024 * (first_part t + (block - 3)) + place)
-          else target_of targets foreign (word_at t (4096 * (first_page t + (block - 3 - parts t)) + 4 * place)))
-          ≡ (if b then base + 4096 * third_for t (1024 * (first_part t + (block - 3)) + place)
-          else target_of targets foreign (word_at t (4096 * (first_page t + (block - 3 - parts t)) + 4 * place)))
-      go true y z f g h = absurd (grind (arith, nat_tests))
-      go false true z f g h = absurd (grind (arith, nat_tests))
-      go false false true f g h = absurd (grind (arith, nat_tests))
-      go false false false f g h =
-          ap (λ (w : Bool). if w then base + 4096 * third_for t (1024 * (first_part t + (block - 3)) + place)
-          else target_of targets foreign (word_at t (4096 * (first_page t + (block - 3 - parts t)) + 4 * place))) e
+  later block place b low e =
+      let x : (block == 0) ≡ false = grind (arith, nat_tests) in
+      let y : (block == 1) ≡ false = grind (arith, nat_tests) in
+      let z : (block == 2) ≡ false = grind (arith, nat_tests) in
+      rw (x, y, z, e) refl
 
   -- ---- the three levels
   second_is : (a : ℕ) → a < 2 ^ 32

@@ -1,5 +1,5 @@
 -- The translator, word by word.
-use Rattle.addr_translate.proofs.Common.{◌≡◌, ◌≢◌, ℕ, ◌+◌, ◌*◌, ◌/◌, ◌%◌, ◌^◌, ◌<◌, ◌≤◌, inl, true, Ok, List, length, map, refl, ap, sym, ◌∙◌, subst, arith, bit_and, ◌==◌, pos, wrapped, memory_word, TableAt, table_word, second_block, third_block, looked_up, IsBlock, translator, IsSecondWord, IsAboutToTranslate, Translates}
+use Rattle.addr_translate.proofs.Common.{◌≡◌, ◌≢◌, ℕ, ◌+◌, ◌*◌, ◌/◌, ◌%◌, ◌^◌, ◌<◌, ◌≤◌, inl, true, List, length, map, refl, ap, sym, ◌∙◌, subst, arith, bit_and, ◌==◌, pos, wrapped, memory_word, TableAt, table_word, second_block, third_block, looked_up, IsBlock, translator, IsSecondWord, IsAboutToTranslate, Translates}
 use Rattle.std.proofs.lemmas.Nat.Bits.{and_high}
 use Rattle.v8_decode.specs.declared.Op2.TheVariants.{Reg, Imm}
 use Rattle.v8_decode.specs.declared.AluOp.TheVariants as ops
@@ -36,15 +36,11 @@ four n e = ap (λ z. z == 0) e
 shifts : (u : State) (a x k : ℕ) → k < 32 → register_of u a ≡ x → Gives ops.SRL a (Imm (pos k)) (x / 2 ^ k) u
 unfolding alu_of
 shifts u a x k low e =
-    ap (λ z. Ok (record { value = z / 2 ^ (wrapped k % 32); codes = u.codes; y = u.y })) e
-    ∙ ap (λ z. Ok (record { value = x / 2 ^ z; codes = u.codes; y = u.y }))
-    (let f : wrapped k % 32 ≡ k = omega arith in f)
+    let f : wrapped k % 32 ≡ k = omega arith in rw (e, f) refl
 
 masks : (u : State) (a x v : ℕ) → 4 * (x / 4 % 1024) ≡ v → register_of u a ≡ x → Gives ops.AND a (Imm (pos 0xffc)) v u
 unfolding alu_of
-masks u a x v is e =
-    ap (λ z. Ok (record { value = bit_and z 0xffc; codes = u.codes; y = u.y })) e
-    ∙ ap (λ z. Ok (record { value = z; codes = u.codes; y = u.y })) (masked x ∙ is)
+masks u a x v is e = rw (e, masked x, is) refl
 
 -- b has a block, and a the place in it
 entry_sum : (u : State) (a b x y : ℕ) → y + x < 2 ^ 32 → register_of u b ≡ y → register_of u a ≡ x

@@ -26,16 +26,10 @@ at_slots text graph node s t was now e f h =
 
 -- ---- a transfer in a slot ends the run
 
-coupled : (x : Slot) (s t : State) → x ≢ NoSlot → (unless_couple x s t).ending ≡ Some Couple
-coupled x s t h = grind arith
-
 pub couples : (x : Slot) (s : State) (instr : Instr) → x ≢ NoSlot → s.slot ≡ x → is_transfer instr ≡ true
     → (act s instr).ending ≡ Some Couple
 unfolding act
-couples x s (i.Branch cond annul disp22) h e t = ap (λ y. (unless_couple y s (branch_step s cond annul disp22)).ending) e ∙ coupled x s _ h
-couples x s (i.Call disp30) h e t = ap (λ y. (unless_couple y s (call_step s disp30)).ending) e ∙ coupled x s _ h
-couples x s (i.Jmpl rd rs1 op2) h e t = ap (λ y. (unless_couple y s (jump_step s rd (sum_of s rs1 op2))).ending) e ∙ coupled x s _ h
-couples x s _ h e t = absurd (cc)
+couples x s instr h e t = grind arith
 
 -- a step out of a slot goes on where the transfer before leads
 pub out_goes : (s : State) → (step_of s).ending ≡ None → s.slot ≢ NoSlot → (step_of s).pc ≡ s.npc

@@ -34,12 +34,12 @@ pub use Rattle.cfg_walk.specs.Walk.{Point, goes_on_at, gone, gone_in, instr_at, 
 unfoldable pub use Rattle.cfg_walk.specs.Walk.{end_of_walk}
 unfoldable pub use Rattle.code_runs.specs.StoredWords.{memory_word}
 pub use Rattle.edit_core.specs.Code.{EditsAreUntouched, EditsCrashAlike, EditsDoTheSame, GrantedRunsAreAlike, IsEdited}
-pub use Rattle.edit_core.specs.Cost.{is_ld, IsWithinBound, short_bound}
+pub use Rattle.edit_core.specs.Cost.{is_before_jump, LoadsNoEntry, IsWithinBound, short_bound}
 pub use Rattle.edit_core.specs.Dead.{AreDead}
 pub use Rattle.edit_core.specs.Faithful.{cell_noted, editor_page, HasGraph, HasPages, IsFaithful, IsInRoom, IsPlace, note_edge, note_edges, note_edges as note_edges_of, note_of, page_size, tool_number, word_mapped}
 pub use Rattle.edit_core.specs.Private.{AreInside, AreLaid, AreMade, case_key, count_of, entries_with, HasRoom, is_entry, IsBuilt, IsViewOf, placement_in, plan_of, same_key}
 pub use Rattle.edit_core.specs.Runs.{AreTogether, GoesByTable, instr_in, JumpsGoByTable, KeepsLoaded, limits_in, Linked, RunFacts, Spares}
-pub use Rattle.edit_core.specs.RunsAlike.{EndsAtNode, IsStop, TellsStep, visits_by}
+pub use Rattle.edit_core.specs.RunsAlike.{EndsAtNode, IsMatched, IsStop, TellsStep, visits_by}
 pub use Rattle.edit_core.specs.Taken.{bound_in, bound_of, CanEdit, counted_on, operations_on}
 pub use Rattle.edit_core.specs.Whole.{Answered, EditsAnswer, KeepsWhatLives, KeptIn}
 pub use Rattle.edit_core.specs.Written.{addr, AreTablesOf, case_places, cases_at, cases_table, cells_at, cells_base, cells_size, code_base, code_segment, if_any, is_behind, is_off, IsEdit, IsWorkable, landings_of, off_range, off_ranges, page_segment, second_table, segment_noted, table_after, table_at, tables_size, TablesMatch, whole_pages}

@@ -1,5 +1,5 @@
 -- What is written is an edit: its notes meet their rules, and the laws of written files give the rest. It is faithful.
-use Rattle.edit_core.proofs.Common.{◌≡◌, ℕ, suc, ◌+◌, ◌*◌, ◌%◌, ◌^◌, ◌<◌, ◌≤◌, List, [], ◌∷◌, ◌++◌, length, length-append, nat_le, None, inl, inr, refl, ap, ◌∙◌, arith, All, sum_by, length-replicate, count_by-le-length, big_bytes, IsText, Words, image_of, highest_end, Notes, accepted-program, AreNotes, notes_bytes, notes_words, words_bytes, AddedSegment, length-words_bytes, Graph, TableAt, Each, Placement, AreFit, Plan, ToolKind, tool_number, true, false, slice_index, Some, slice_get, le-leb, lt-ltb, append_assoc, slice_get_within, get_or_from_slice_get, address_of, word_at, NoteRange, Part, State, run, start_of, instr_at, mapping_added, Edge, IsEdgeIn, is_node, each-append, each-then, IsNoLoad, are_tables, cased, each_index, note_bytes, IsWordAt, PlacesSay, CanEdit, bound_in, page_size, HasGraph, HasPages, IsInRoom, IsPlace, note_edges, note_of, word_mapped, IsEdited, IsWithinBound, is_ld, replicate, view_of, entered_of, are_ranges, flat_map, eq-eqb, and_from, holds, node_number, each_of_all, get_or_default_zero}
+use Rattle.edit_core.proofs.Common.{sym, false≢true, ◌≡◌, ℕ, suc, ◌+◌, ◌*◌, ◌%◌, ◌^◌, ◌<◌, ◌≤◌, List, [], ◌∷◌, ◌++◌, length, length-append, nat_le, None, inl, inr, refl, ap, ◌∙◌, arith, All, sum_by, length-replicate, count_by-le-length, big_bytes, IsText, Words, image_of, highest_end, Notes, accepted-program, AreNotes, notes_bytes, notes_words, words_bytes, AddedSegment, length-words_bytes, Graph, TableAt, Each, Placement, AreFit, Plan, ToolKind, tool_number, true, false, slice_index, Some, slice_get, le-leb, lt-ltb, append_assoc, slice_get_within, get_or_from_slice_get, address_of, word_at, NoteRange, Part, State, run, start_of, instr_at, mapping_added, Edge, IsEdgeIn, is_node, each-append, each-then, IsNoLoad, are_tables, cased, each_index, note_bytes, IsWordAt, PlacesSay, CanEdit, bound_in, page_size, HasGraph, HasPages, IsInRoom, IsPlace, note_edges, note_of, word_mapped, IsEdited, IsWithinBound, LoadsNoEntry, is_before_jump, nat_lt, ◌&&◌, subst, table_of, load_is, blocks_of, CaseTable, Open, any_at, nat_tests, replicate, view_of, entered_of, are_ranges, flat_map, eq-eqb, and_from, holds, node_number, each_of_all, get_or_default_zero}
 use Rattle.std.proofs.lemmas.List.Elements.{All-replicate}
 use Rattle.notes.specs.Laws.{AreWords}
 use Rattle.notes.specs.Written.{segment_words, edge_words, range_words}
@@ -13,6 +13,7 @@ use Rattle.elf32_write.proofs.Loads.{file_loads}
 use Rattle.elf32_write.proofs.Segments.{delta-from, delta-to}
 use Rattle.v8_step.proofs.ValidNumbers.{high_first-bytes, flat_map-bytes}
 use Rattle.cfg_walk.proofs.Addresses.{word_at-address}
+use Rattle.image_code.specs.Loads.{load_of}
 use Rattle.edit_core.specs.Written.{CanDo, IsNewCode, IsEdit, if_any, cells_at, cells_base, text_of, graph_in, table_base, code_base, pieces_of, entry_of, table_at, segment_size, code_segment, page_segment, added, notes_on, edit_file, EditsRunAlike, setup_of, off_range, off_ranges}
 use Rattle.edit_core.proofs.Bounds.{operations_few}
 use Rattle.edit_core.proofs.Fronts.{any_past, by_any, each_any, any-map, any_first}
@@ -48,6 +49,11 @@ notes_are_bytes n = flat_map-bytes (big_bytes 4) (high_first-bytes 4) (notes_wor
 
 tool_few : (kind : ToolKind) → tool_number kind ≤ 3
 tool_few kind = grind arith
+
+stands_before : (first jump load word : ℕ) → first ≤ load → load < jump → load ≡ word
+    → nat_le first word && nat_lt word jump ≡ true
+stands_before first jump load word above below same =
+    rw (le-leb first word (omega (arith, above, same)), lt-ltb word jump (omega (arith, below, same))) refl
 
 -- ---- an edit
 
@@ -312,13 +318,19 @@ module _ (original : List ℕ) (plan : Plan) (limit : length original ≤ 2 ^ 26
         code.words (omega arith) (omega arith) (omega arith) refl refl at.0 (slice_get_within p.code at.0 _ at.2)
         ∙ ap (λ w. Some w) (get_or_from_slice_get p.code at.0 (slice_index text.words word) 0 at.2)
 
-    -- what is kept before the load of an open switch is kept before an LD
-    no_load : (s : State) → is_ld (instr_at text s.pc) ≡ false → IsNoLoad (setup_of original plan code.dead notes) s
-    no_load s none k o some at =
+    -- what is kept before the load of an open switch is kept before an LD of its block
+    no_load : (s : State) → LoadsNoEntry text graph s → IsNoLoad (setup_of original plan code.dead notes) s
+    no_load s none k table some at =
         let g = setup_of original plan code.dead notes in
-        let loads = ((are_tables g refl text_is (cased g text_is (graph_is original plan))).each k o some).loads in
-        let ld = rw (at, loads) at none in
-        absurd (cc)
+        let cases = cased g text_is (graph_is original plan) in
+        let loads = ((are_tables g refl text_is cases).each k table some).loads in
+        let t = table_of g refl k table some in
+        let l = load_is text (blocks_of g.text g.given) t.o (cases.each k t.o t.is) in
+        let load : load_of text t.o ≡ table.load = ap (λ (c : CaseTable). c.load) t.same in
+        let before : is_before_jump graph table.load ≡ true =
+        any_at (λ (o : Open). nat_le o.approach.first table.load && nat_lt table.load o.approach.jump) g.switches k t.o t.is
+        (stands_before t.o.approach.first t.o.approach.jump (load_of text t.o) table.load l.above l.below load) in
+        absurd (false≢true (sym (none table.load at before) ∙ rw (at, loads) refl))
 
     faithful : EditsRunAlike → PlacesSay → IsEdited original plan file
     unfolding is_edit
@@ -353,7 +365,11 @@ module _ (original : List ℕ) (plan : Plan) (limit : length original ≤ 2 ^ 26
             exact = rw (view_graph original plan) code.exact;
             stores = λ args input given read n untouched watched m k first next.
                 let sparing = runs.stores args input given read n untouched watched m k first next in
-                let strict = no_load (run (start_of original args input) (suc n)) in
+                let strict = λ (none : LoadsNoEntry text (view_of original plan.marks).graph
+                (run (start_of original args input) (suc n))).
+                no_load (run (start_of original args input) (suc n))
+                (subst (λ (z : Graph). LoadsNoEntry text z (run (start_of original args input) (suc n)))
+                (view_graph original plan) none) in
                 record {
                   spills = sparing.spills;
                   first = λ short. sparing.first (short.0, short.1, strict short.2);

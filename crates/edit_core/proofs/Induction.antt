@@ -1,5 +1,5 @@
 -- The induction over the steps of the original, and whole runs.
-use Rattle.edit_core.proofs.Common.{◌≡◌, ◌≢◌, ℕ, zero, suc, ◌+◌, ◌-◌, ◌<◌, ◌≤◌, ◌⊎◌, inl, inr, Option, Some, None, List, ◌++◌, append-nil, refl, ap, sym, ◌∙◌, subst, arith, node_at, fetch_of, Span, AllApart, Ending, State, sum_of, run, IsAmong, StateItem, Register, IsItem, IsSameAt, place_of, place_of-below, WritesIn, IsUntouched, visit_of, pages_of, Ends, stays_ended, puts_nothing, Node, Point, point_of, goes_on_at, gone, gone_in, node_after, end_of_walk, IsAtWord, IsNoLoad, IsThere, EditSetup, graph_in, number_in, edit_in, cells_in, store_of, updates, step_stays, Answers, IsLeast, AtVisit, IsOffPages, HasShortForms, place_of-some, HasSameOutside, Matches, IsWay, walks_match, KeepsAddress, MatchesIn, StepsOn, at_point, does_at, word_of, ended_stays, EndsAtNode, TellsStep, KeepsLoaded, AreTogether, Linked, RunFacts, Spares, instr_in, limits_in, EditsAnswer, Answered, KeptIn, own_trail, trail_of, IsStop, visits_by, unless_ended, cases_lt, length, []}
+use Rattle.edit_core.proofs.Common.{◌≡◌, ◌≢◌, ℕ, zero, suc, ◌+◌, ◌-◌, ◌<◌, ◌≤◌, ◌⊎◌, inl, inr, Option, Some, None, List, ◌++◌, append-nil, refl, ap, sym, ◌∙◌, subst, arith, node_at, fetch_of, Span, AllApart, Ending, State, sum_of, run, IsAmong, StateItem, Register, IsItem, IsSameAt, place_of, place_of-below, WritesIn, IsUntouched, visit_of, pages_of, Ends, stays_ended, puts_nothing, Node, Point, point_of, goes_on_at, gone, gone_in, node_after, end_of_walk, IsAtWord, IsNoLoad, IsThere, EditSetup, graph_in, number_in, edit_in, cells_in, store_of, updates, step_stays, Answers, IsLeast, AtVisit, IsOffPages, HasShortForms, place_of-some, HasSameOutside, Matches, IsWay, walks_match, KeepsAddress, MatchesIn, StepsOn, at_point, does_at, word_of, ended_stays, EndsAtNode, TellsStep, KeepsLoaded, AreTogether, Linked, RunFacts, Spares, instr_in, limits_in, EditsAnswer, Answered, KeptIn, own_trail, trail_of, IsMatched, IsStop, visits_by, unless_ended, cases_lt, length, []}
 use Rattle.image_code.specs.Simulates.{IsOnWay}
 use Rattle.v8_step.specs.Step.{step_of, puts_of, on_word, puts_on_word}
 use Rattle.two_runs.proofs.Reading.{same_sum}
@@ -130,9 +130,8 @@ module _ (g : EditSetup) (entry : ℕ) (Inside : Point → Type 0) (AtVisit : No
     matched : (n : ℕ) → (s n).ending ≡ None → MatchesIn g (node n) (point n)
     matched n live = walks_match g.text g.given g.switches entry s0 n r.text r.fetches r.begins r.opened r.by_case live
 
-    next_of : (n m : ℕ) → Links n m → AllApart pages (judged_in (s n) (instr_at (s n))) → Inside (point n)
-        → ((s (suc n)).ending ≡ None → Inside (point (suc n))) → IsNext n m
-    next_of n m h apart within inside =
+    next_of : (n m : ℕ) → Links n m → AllApart pages (judged_in (s n) (instr_at (s n))) → Inside (point n) → IsNext n m
+    next_of n m h apart within =
         let visits = r.simulates.visits _ _ _ (matched n h.live) within h.here in
         let judged = rw (ap (decoded (s n).ending) (fetched n) ∙ instr_same (s n).ending (word n) h.live) at apart in
         let world = h.together.world in
@@ -142,8 +141,7 @@ module _ (g : EditSetup) (entry : ℕ) (Inside : Point → Type 0) (AtVisit : No
         (h.items item is (r.keeping.reads n item is h.live d))) judged) in
         let ends = ends_by (s (suc n)).ending refl visits.0 b in
         let whole = rw ends.1 at (r.simulates.steps (node n) (point n) (t m)
-        (matched n h.live) within h.here b.judged (λ live. let on : (s (suc n)).ending ≡ None = b.ending ∙ live in
-        rw (one_point (s (suc n)) (does n m) (b.point on)) at (inside on)) (λ k o is at.
+        (matched n h.live) within h.here b.judged (λ k o is at.
         -- the jump of an open switch goes by the entry whose address is kept
         let c = r.by_table n h.live k o is at in
         record {
@@ -251,6 +249,18 @@ module _ (g : EditSetup) (entry : ℕ) (Inside : Point → Type 0) (AtVisit : No
                 ∙ sym (step_stays (s n) d h.live over);
           })
 
+    -- behind the end
+    together_ended : (n m : ℕ) (d : Ending) → (s n).ending ≡ Some d → AreTogether g entry s0 t0 n m
+        → AreTogether g entry s0 t0 (suc n) m
+    together_ended n m d first h =
+        let stays : s (suc n) ≡ s n = stays_ended (s n) d first in
+        let over : (s (suc n)).ending ≡ Some d = ap (λ (z : State). z.ending) stays ∙ first in
+        record {
+          world = rw stays h.world;
+          puts = λ descriptor. rw (puts_nothing (s n) d descriptor first, append-nil) (h.puts descriptor);
+          cells = h.cells ∙ sym ((ended_same n d over).1);
+        }
+
     -- what its steps store and take
     spares_next : (n m : ℕ) (x : IsNext n m) → Spares g entry NoLongForms s0 t0 n m (x.on.count + m)
     spares_next n m x watched =
@@ -343,7 +353,7 @@ module _ (g : EditSetup) (entry : ℕ) (Inside : Point → Type 0) (AtVisit : No
       next : (n m : ℕ) → Reached last n m → Next n m
       next n m (goes h) = elim (cases_lt n last) [
         | inl l ↦
-            let x = next_of n m h (u.unjudged n l) (inside n (omega (arith, l)) h.live) (inside (suc n) l) in
+            let x = next_of n m h (u.unjudged n l) (inside n (omega (arith, l)) h.live) in
             record {
               moment = x.on.count + m;
               reached = reached_next n m h x last (s (suc n)).ending refl;
@@ -363,15 +373,11 @@ module _ (g : EditSetup) (entry : ℕ) (Inside : Point → Type 0) (AtVisit : No
       next n m (ends d first second h tells) =
           let stays : s (suc n) ≡ s n = stays_ended (s n) d first in
           let over : (s (suc n)).ending ≡ Some d = ap (λ (z : State). z.ending) stays ∙ first in
-          let cells = h.cells ∙ sym ((ended_same n d over).1) in
+          let both = together_ended n m d first h in
           record {
             moment = m;
-            reached = ends d over second (record {
-              world = rw stays h.world;
-              puts = λ descriptor. rw (puts_nothing (s n) d descriptor first, append-nil) (h.puts descriptor);
-              cells = cells;
-            }) (record {
-              cells = cells;
+            reached = ends d over second both (record {
+              cells = both.cells;
               node = cc (tells.node, (ended_same n d over).2);
               address = λ place is. tells.address place is ∙ sym (ap (λ (z : State). z.pc) stays);
             });
@@ -417,6 +423,39 @@ module _ (g : EditSetup) (entry : ℕ) (Inside : Point → Type 0) (AtVisit : No
         goes = λ n l live. (step n l).goes live;
         stays = λ n l d over. (step n l).stays d over;
       })
+
+      -- ---- one step more, wherever that leads
+
+      module _ (apart : AllApart pages (judged_in (s last) (instr_at (s last)))) where
+        led : (m : ℕ) → moments last ≡ m → Reached last last m → IsMatched (edit_in g) entry s0 t0 (suc last)
+        led m same (goes h) =
+            let x = next_of last m h apart (inside last (omega arith) h.live) in
+            let both = together_next last m h x in
+            let before = (all_follow.0 last (omega arith)).holds.trail in
+            let quiet = quiet_trail g.notes t0 (suc m) (x.on.count + m) (omega (arith, x.on.path.some))
+            (λ j a b. (on_way last m j x a b).visit) in
+            record {
+              moment = x.on.count + m;
+              trail = quiet ∙ cc (x.visit, h.live, before, same);
+              ends = record {
+                ending = cc (arrived last m h x, x.on.followed.ending, x.alike.ending);
+                world = same_outside (suc last) (x.on.count + m) both;
+              };
+              cells = both.cells;
+            }
+        led m same (ends d first second h tells) =
+            let both = together_ended last m d first h in
+            let before = (all_follow.0 last (omega arith)).holds.trail in
+            record {
+              moment = m;
+              trail = cc (first, before, same, append-nil (own_trail s0 last));
+              ends = record {
+                ending = second ∙ sym first ∙ ap (λ (z : State). z.ending) (sym (stays_ended (s last) d first));
+                world = same_outside (suc last) m both;
+              };
+              cells = both.cells;
+            }
+        led m same (past l) = absurd (omega (arith, l))
 
       -- ---- wherever the written file is stopped, it tells of the step that it visited last
 
@@ -514,6 +553,7 @@ module _ (g : EditSetup) (entry : ℕ) (Inside : Point → Type 0) (AtVisit : No
         cells = λ n l. (moment n l).cells;
         stops = λ m visits. stop_is m visits;
         over = λ n l. (moment n l).over;
+        leads = λ apart. led apart (moments last) refl (came last).1;
       }
 
 pub edits_answer : EditsAnswer

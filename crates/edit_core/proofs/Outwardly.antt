@@ -1,13 +1,15 @@
 -- Of a faithful edit all can be seen from outside that its original shows.
-use Rattle.edit_core.proofs.Common.{◌≡◌, ℕ, suc, ◌+◌, ◌&&◌, not, ◌≤◌, inl, inr, true, false, List, [], ◌∷◌, ◌++◌, length, map, Some, None, refl, ap, sym, ◌∙◌, arith, append-nil, list_any, and_parts, or_parts, nat_tests, map-append, map-map, Notes, ProgramHeader, loadable, program_headers, mapping_of, mappings, kept, region_of, Span, IsApart, IsApartFromAll, AllApart, State, AreBytes, run, run_puts, puts_nothing, stays_ended, Answers, pages_of, own_trail, trail_of, IsUntouched, AreArguments, program_name, stack_region, start_memory, start_of, Plan, append_assoc, has_memory_outside_a_run, is_last_page, leaves_room, load_fault, loadable_file, are_apart, heap_span, is_apart, is_apart_from, span_of, span_of_mapping, page_of, lived_to, HasPages, IsFaithful, note_of, EditsAreUntouched, EditsCrashAlike, EditsDoTheSame, GrantedRunsAreAlike}
+use Rattle.edit_core.proofs.Common.{◌≡◌, ℕ, zero, suc, ◌+◌, ◌&&◌, not, ◌≤◌, ◌⊎◌, inl, inr, cases_Bool, false≢true, true, false, List, [], ◌∷◌, ◌++◌, length, map, Some, None, refl, ap, sym, ◌∙◌, arith, append-nil, list_any, and_parts, or_parts, nat_tests, map-append, map-map, Notes, ProgramHeader, loadable, program_headers, mapping_of, mappings, kept, region_of, Span, IsApart, IsApartFromAll, AllApart, State, AreBytes, run, run_puts, puts_nothing, stays_ended, pages_of, own_trail, trail_of, IsUntouched, AreArguments, program_name, stack_region, start_memory, start_of, Plan, append_assoc, has_memory_outside_a_run, is_last_page, leaves_room, load_fault, loadable_file, are_apart, heap_span, is_apart, is_apart_from, span_of, span_of_mapping, page_of, lived_to, HasPages, IsFaithful, IsMatched, note_of, EditsAreUntouched, EditsCrashAlike, EditsDoTheSame, GrantedRunsAreAlike}
 use Rattle.v8_step.specs.declared.Ending.TheVariants.{Exit}
-use Rattle.two_runs.specs.Refused.{HasBuffers, IsGranted, is_refusal}
+use Rattle.two_runs.specs.Needed.{instr_at, judged_in}
+use Rattle.two_runs.specs.Refused.{HasBuffers, IsFaulted, IsGranted, IsRefused, above_first_page, is_refusal}
 use Rattle.two_runs.specs.Code.{IsUnmapped}
-use Rattle.two_runs.proofs.Unmapped.{granted_is_untouched, unmapped_is_untouched}
+use Rattle.two_runs.proofs.Unmapped.{after_run, granted_is_untouched, judges, refusal_stays, unmapped_is_untouched}
 use Rattle.v8_process.proofs.Loading.{mapped_apart}
-use Rattle.edit_core.specs.Code.{above_first_page}
+use Rattle.edit_core.specs.Code.{CrashesAreUntouched}
+use Rattle.image_code.specs.Store.{Edit}
 use Rattle.edit_core.specs.Outwardly.{LooksAs}
-use Rattle.edit_core.proofs.Trails.{visit_lives, ending, few_visits, from_on, going, over_or_not, own_live, stays}
+use Rattle.edit_core.proofs.Trails.{few_visits, from_on, over_or_not, own_live, stays}
 
 -- ---- spans of which no two have a common address
 
@@ -77,31 +79,31 @@ module _ (original file : List ℕ) (notes : Notes) (has : HasPages original fil
 
 -- ---- runs
 
--- an answer shows what the original shows
-shown : (notes : Notes) (s0 t0 : State) (n m : ℕ) → Answers notes s0 t0 n m → (k : ℕ) × LooksAs s0 t0 n k
-shown notes s0 t0 n m answers = elim (over_or_not (run s0 n).ending) [
+-- what matches shows what the original shows
+shown : (e : Edit) (entry : ℕ) (s0 t0 : State) (n : ℕ) → IsMatched e entry s0 t0 n → (m : ℕ) × LooksAs s0 t0 n m
+shown e entry s0 t0 n h = elim (over_or_not (run s0 n).ending) [
   | inl live ↦
-      let goes = going notes s0 t0 n m (run s0 n).ending live answers.matches in
-      let same : length (trail_of notes t0 m) ≡ length (own_trail s0 n) = ap (λ (l : List ℕ). length l) answers.trail in
-      let looks : LooksAs s0 t0 n m =
+      let same : length (trail_of e.notes t0 h.moment) ≡ length (own_trail s0 n) =
+      ap (λ (l : List ℕ). length l) h.trail in
+      let looks : LooksAs s0 t0 n h.moment =
       record {
-        later = omega (arith, same, own_live s0 n live, few_visits notes t0 m);
-        ending = visit_lives notes (run t0 m) (run s0 n).pc goes.visit ∙ sym live;
-        output = λ descriptor. sym (goes.world.output descriptor);
+        later = omega (arith, same, own_live s0 n live, few_visits e.notes t0 h.moment);
+        ending = h.ends.ending;
+        output = λ descriptor. sym (h.ends.world.output descriptor);
       } in
-      (m, looks)
+      (h.moment, looks)
   | inr over ↦
-      let ends = ending notes s0 t0 n m (run s0 n).ending over.0 over.1 answers.matches in
+      let m = h.moment in
       let still : (k : ℕ) → m ≤ k → (run t0 k).ending ≡ (run t0 m).ending =
-      λ k least. ap (λ (t : State). t.ending) (stays t0 m k over.0 least (ends.ending ∙ over.1)) in
+      λ k least. ap (λ (t : State). t.ending) (stays t0 m k over.0 least (h.ends.ending ∙ over.1)) in
       let looks : LooksAs s0 t0 n (n + m) =
       record {
         later = omega arith;
-        ending = still (n + m) (omega arith) ∙ ends.ending;
+        ending = still (n + m) (omega arith) ∙ h.ends.ending;
         output = λ descriptor. from_on (λ k. run_puts t0 k descriptor ≡ run_puts t0 m descriptor) m refl
             (λ k least same. ap (λ (more : List ℕ). run_puts t0 k descriptor ++ more)
-            (puts_nothing (run t0 k) over.0 descriptor (still k least ∙ ends.ending ∙ over.1)) ∙ append-nil _ ∙ same)
-            (n + m) (omega arith) ∙ sym (ends.world.output descriptor);
+            (puts_nothing (run t0 k) over.0 descriptor (still k least ∙ h.ends.ending ∙ over.1)) ∙ append-nil _ ∙ same)
+            (n + m) (omega arith) ∙ sym (h.ends.world.output descriptor);
       } in
       (n + m, looks)
 ]
@@ -114,34 +116,81 @@ exit_granted s0 n status buffers over =
     ap (λ (t : State). t.ending) (stays_ended (run s0 n) (Exit status) over) ∙ over in
     record { accesses = ap is_refusal over; fetch = λ trapped. absurd (cc); buffers = buffers }
 
+-- what isn't refused by step n + 1 is granted by step n
+granted_before : (s0 : State) (n : ℕ) → HasBuffers s0 (suc n) → is_refusal (run s0 (suc n)).ending ≡ false
+    → IsGranted s0 n
+granted_before s0 n buffers fine = record {
+  accesses = elim (cases_Bool (is_refusal (run s0 n).ending)) [
+    | inl is ↦ absurd (false≢true (sym fine ∙ refusal_stays (run s0 n) is))
+    | inr is ↦ is
+  ];
+  fetch = λ trapped. absurd (false≢true (sym fine ∙ ap is_refusal trapped));
+  buffers = λ k below. buffers k (omega (arith, below));
+}
+
 pub edits_are_untouched : EditsAreUntouched
 unfolding start_of
 edits_are_untouched original plan file faithful args input n granted =
     granted_is_untouched (pages_of faithful.notes) (start_of original args input) n refl
-    (unmapped original file faithful.notes faithful.pages faithful.whole.loads (program_name ∷ args)) granted
+    (unmapped original file faithful.notes faithful.pages faithful.whole.loads (program_name ∷ args))
+    (pages_high original file faithful.notes faithful.pages faithful.whole.loads) granted
+
+pub crashes_are_untouched : CrashesAreUntouched
+unfolding start_of
+crashes_are_untouched original plan file faithful args input n refused =
+    let pages = faithful.pages in
+    let loads = faithful.whole.loads in
+    unmapped_is_untouched (pages_of faithful.notes) (start_of original args input) n refl
+    (unmapped original file faithful.notes pages loads (program_name ∷ args)) (record {
+      outside = λ k below live none. pages_high original file _ pages loads _ (refused.outside k below live none).0;
+      unjudged = λ k below is. all_high original file _ pages loads _ (refused.unjudged k below is);
+    })
 
 module _ (original : List ℕ) (plan : Plan) (file : List ℕ) (faithful : IsFaithful original plan file)
     (args : List (List ℕ)) (input : List ℕ) (given : AreArguments args) (read : AreBytes input) where
-  comes_to : (n : ℕ) → IsUntouched (pages_of faithful.notes) (start_of original args input) n
-      → (m : ℕ) × LooksAs (start_of original args input) (start_of file args input) n m
-  comes_to n untouched =
-      let answered = (faithful.runs args input given read).answered n untouched in
-      shown faithful.notes _ _ n answered.moment answered.first.holds
+  abbrev s0 : State
+  s0 = start_of original args input
+
+  abbrev t0 : State
+  t0 = start_of file args input
+
+  abbrev pages : List Span
+  pages = pages_of faithful.notes
+
+  -- behind a step of which nothing is refused, or what is judges no byte of the pages
+  comes_on : (k : ℕ) → IsUntouched pages s0 k
+      → (IsRefused (run s0 k) → AllApart pages (judged_in (run s0 k) (instr_at (run s0 k))))
+      → (m : ℕ) × LooksAs s0 t0 (suc k) m
+  unfolding start_of
+  comes_on k untouched clear =
+      let loads = faithful.whole.loads in
+      let none = unmapped original file faithful.notes faithful.pages loads (program_name ∷ args) in
+      shown _ _ _ _ (suc k) ((faithful.runs args input given read).leads k untouched
+      (judges pages (run s0 k) (after_run pages s0 k none) clear))
+
+  -- where nothing is refused, wherever the original then stands
+  stands : (n : ℕ) → HasBuffers s0 n → is_refusal (run s0 n).ending ≡ false → (m : ℕ) × LooksAs s0 t0 n m
+  unfolding start_of
+  stands zero buffers fine = (0, record { later = omega arith; ending = refl; output = λ descriptor. refl })
+  stands (suc k) buffers fine =
+      comes_on k (edits_are_untouched original plan file faithful args input k (granted_before s0 k buffers fine))
+      (λ refused. absurd (none_refused refused.1))
+    where
+      none_refused : (is_refusal (run s0 (suc k)).ending ≡ true) ⊎ IsFaulted (run s0 k) → ⊥
+      none_refused (inl is) = false≢true (sym fine ∙ is)
+      none_refused (inr fault) = buffers k (omega arith) fault
 
 pub does_the_same : EditsDoTheSame
 does_the_same original plan file faithful args input given read =
     let s0 = start_of original args input in
     let t0 = start_of file args input in
-    let stands : (n : ℕ) → IsGranted s0 n → (m : ℕ) × LooksAs s0 t0 n m = λ n granted.
-    comes_to original plan file faithful args input given read n
-    (edits_are_untouched original plan file faithful args input n granted) in
+    let standing = stands original plan file faithful args input given read in
     record {
-      exits = λ n status buffers over. stands n (exit_granted s0 n status buffers over);
+      exits = λ n status buffers over. standing n buffers (ap is_refusal over);
       endless = λ buffers live.
-          let all = λ (n : ℕ). let next : (run s0 (suc n)).ending ≡ None = live (suc n) in
-          stands n (record { accesses = ap is_refusal (live n); fetch = λ trapped. absurd (cc); buffers = buffers n }) in
+          let all = λ (n : ℕ). standing n (buffers n) (ap is_refusal (live n)) in
           (λ m. lived_to t0 m (all m).0 (all m).1.later ((all m).1.ending ∙ live m), all);
-      stands = stands;
+      stands = standing;
     }
 
 pub granted_runs_are_alike : GrantedRunsAreAlike
@@ -155,13 +204,7 @@ granted_runs_are_alike original plan file is args input given read =
     }
 
 pub crash_alike : EditsCrashAlike
-unfolding start_of
-crash_alike original plan file faithful args input given read n refused =
-    let pages = faithful.pages in
-    let loads = faithful.whole.loads in
-    comes_to original plan file faithful args input given read n
-    (unmapped_is_untouched (pages_of faithful.notes) (start_of original args input) n refl
-    (unmapped original file faithful.notes pages loads (program_name ∷ args)) (record {
-      outside = λ k below live none. pages_high original file _ pages loads _ (refused.outside k below live none).0;
-      unjudged = λ k below is. all_high original file _ pages loads _ (refused.unjudged k below is);
-    }))
+crash_alike original plan file faithful args input given read n refused clear =
+    comes_on original plan file faithful args input given read n
+    (crashes_are_untouched original plan file faithful args input n refused)
+    (λ is. all_high original file faithful.notes faithful.pages faithful.whole.loads _ (clear is))

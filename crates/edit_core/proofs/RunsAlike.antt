@@ -302,6 +302,7 @@ edits_run_alike make fits original plan p place table file is =
         stops = λ m untouched.
             let n = visits_by (notes_on original plan p) (start_of file args input) m in
             (all args input given read n untouched).stops m refl;
+        leads = λ n untouched apart. (all args input given read n untouched).leads apart;
       };
       steps = λ args input given read. record {
         soon = λ untouched m least. (all args input given read 0 untouched).soon m least;

@@ -1,5 +1,5 @@
 -- What contracts of this crate's code and laws cite beyond the statement.
-use Rattle.std.specs.Prelude.{ℕ, List, ◌≡◌, Some, None, suc, ◌-◌, ◌^◌, [], ◌∷◌}
+use Rattle.std.specs.Prelude.{ℕ, List, ◌≡◌, Some, None, suc, [], ◌∷◌}
 use Rattle.snippets.specs.declared.snippet.Op.{Op}
 use Rattle.cfg_blocks.specs.Marks.{numbers}
 use Rattle.tool_kit.specs.declared.edge_ref.EdgeRef.{EdgeRef}
@@ -15,13 +15,13 @@ use Rattle.edit_core.specs.declared.requests.EditFault.TheVariants as faults
 use Rattle.edit_core.specs.Taken.{IsCramped}
 use Rattle.elf32_sparc.specs.declared.fault.ReadFault.TheVariants as reads
 use Rattle.elf32_sparc.specs.Image.{image_of}
-use Rattle.v8_memory.specs.Spans.{Span}
+use Rattle.v8_memory.specs.Spans.{AllApart}
 use Rattle.v8_step.specs.State.{State, AreBytes}
-use Rattle.two_runs.specs.Needed.{IsUntouched}
-use Rattle.two_runs.specs.Refused.{IsGranted}
+use Rattle.v8_step.specs.Run.{run}
+use Rattle.two_runs.specs.Needed.{IsUntouched, instr_at, judged_in}
+use Rattle.two_runs.specs.Refused.{above_first_page, IsGranted, IsRefused, IsUntouchedWhereRefused}
 use Rattle.two_runs.specs.Visits.{pages_of}
 use Rattle.two_runs.specs.TwoRuns.{IsBounded}
-use Rattle.two_runs.specs.Code.{IsUntouchedWhereRefused}
 use Rattle.cfg_walk.specs.Walk.{gone_in}
 use Rattle.v8_process.specs.Start.{start_of}
 use Rattle.v8_process.specs.Arguments.{AreArguments}
@@ -86,13 +86,20 @@ GrantedRunsAreAlike =
 
 -- ---- and so where what is refused lies in the first 4096 bytes, as by a null pointer: no file has memory there
 
-abbrev pub above_first_page : Span
-above_first_page = record { from = 0x1000; count = 2 ^ 32 - 0x1000 }
+-- no page is touched
+abbrev pub CrashesAreUntouched : Type 0
+CrashesAreUntouched =
+    (original : List ℕ) (plan : Plan) (file : List ℕ) → (is : IsFaithful original plan file)
+    → (args : List (List ℕ)) (input : List ℕ) (n : ℕ)
+    → IsUntouchedWhereRefused (above_first_page ∷ []) (start_of original args input) n
+    → IsUntouched (pages_of is.notes) (start_of original args input) n
 
+-- and behind the step that comes next, too, wherever that leads, all looks the same
 abbrev pub EditsCrashAlike : Type 0
 EditsCrashAlike =
     (original : List ℕ) (plan : Plan) (file : List ℕ) → IsFaithful original plan file
     → (args : List (List ℕ)) (input : List ℕ) → AreArguments args → AreBytes input
     → let s0 = start_of original args input in
     (n : ℕ) → IsUntouchedWhereRefused (above_first_page ∷ []) s0 n
-    → (m : ℕ) × LooksAs s0 (start_of file args input) n m
+    → (IsRefused (run s0 n) → AllApart (above_first_page ∷ []) (judged_in (run s0 n) (instr_at (run s0 n))))
+    → (m : ℕ) × LooksAs s0 (start_of file args input) (suc n) m

@@ -1,5 +1,7 @@
 -- What an edit costs beside its original: room, steps, and stores into the added pages.
-use Rattle.std.specs.Prelude.{◌≡◌, ℕ, suc, ◌+◌, ◌-◌, ◌*◌, ◌^◌, ◌<◌, ◌≤◌, Bool, true, false, List, Option, Some, None, All}
+use Rattle.std.specs.Prelude.{◌≡◌, ℕ, suc, ◌+◌, ◌-◌, ◌*◌, ◌^◌, ◌<◌, ◌≤◌, Bool, true, false, ◌&&◌, nat_le, nat_lt, List, Option, Some, None, All}
+use Rattle.std.specs.List.{list_any}
+use Rattle.eel_base.specs.CodeText.{Words, word_at}
 use Rattle.elf32_sparc.specs.Image.{image_of}
 use Rattle.notes.specs.Format.{NoteSegment, Notes}
 use Rattle.v8_decode.specs.declared.Instr.{Instr}
@@ -11,6 +13,8 @@ use Rattle.v8_step.specs.Run.{run}
 use Rattle.two_runs.specs.Needed.{IsUntouched}
 use Rattle.two_runs.specs.TwoRuns.{Answers, IsBounded, IsLeast}
 use Rattle.two_runs.specs.Visits.{pages_of}
+use Rattle.cfg_normal.specs.Opens.{Open}
+use Rattle.cfg_normal.specs.Graph.{Graph}
 use Rattle.cfg_view.specs.View.{view_of}
 use Rattle.cfg_walk.specs.Walk.{gone_in, instr_at, point_of}
 use Rattle.liveness.specs.Live.{named_on}
@@ -44,6 +48,16 @@ abbrev pub is_ld : Option Instr → Bool
 is_ld (Some (i.Load loads.LD rd rs1 op2)) = true
 is_ld _ = false
 
+-- a word before the jump of an open switch, in its block
+abbrev pub is_before_jump : Graph → ℕ → Bool
+is_before_jump graph word =
+    list_any (λ (o : Open). nat_le o.approach.first word && nat_lt word o.approach.jump) graph.opens
+
+-- The original doesn't go on at an LD of such a block.
+abbrev pub LoadsNoEntry : Words → Graph → State → Type 0
+LoadsNoEntry text graph s =
+    (word : ℕ) → word_at text s.pc ≡ Some word → is_before_jump graph word ≡ true → is_ld (instr_at text s.pc) ≡ false
+
 -- From the first moment that answers a step to the first that answers the next, what is stored in the pages but for cells
 -- and word 0 of the editor's page is registers that snippets spill; and what is so besides where so little room is asked
 -- that nothing is long, and no address of a load is kept before the state where the original goes on.
@@ -62,7 +76,7 @@ abbrev pub IsWithinBound : List ℕ → Plan → NoteSegment → Type 0
 IsWithinBound original plan page =
     page.start < 2 ^ 31 → page.start + page.length ≤ (image_of original).base + bound_in original plan
 
--- Addresses are kept before loads of open switches alone, so before an LD.
+-- Addresses are kept before loads of open switches alone.
 pub record HasBoundedCost (original : List ℕ) (plan : Plan) (file : List ℕ) (notes : Notes) : Type 0 where
   pub room : All (IsWithinBound original plan) notes.segments
   pub steps : ForEachRun original file (TakesFewSteps (edit_of original plan notes) (image_of original).entry)
@@ -70,5 +84,6 @@ pub record HasBoundedCost (original : List ℕ) (plan : Plan) (file : List ℕ) 
   pub dead : ℕ → List Part
   pub exact : AreDead (image_of original).text (view_of original plan.marks).graph (named_on plan.snips) dead
   pub stores : ForEachRun original file
-      (StoresLittle (edit_of original plan notes) dead (λ s. is_ld (instr_at (image_of original).text s.pc) ≡ false)
-      (bound_in original plan) (image_of original).entry)
+      (StoresLittle (edit_of original plan notes) dead
+      (LoadsNoEntry (image_of original).text (view_of original plan.marks).graph) (bound_in original plan)
+      (image_of original).entry)

@@ -2,11 +2,12 @@
 use Rattle.std.specs.Prelude.{◌≡◌, ◌≢◌, ℕ, suc, ◌-◌, ◌<◌, List, length, Some, None}
 use Rattle.elf32_sparc.specs.Image.{image_of}
 use Rattle.notes.specs.Format.{NoteRange, Notes, node_at, range_at}
+use Rattle.v8_memory.specs.Spans.{AllApart}
 use Rattle.v8_step.specs.State.{State, AreBytes}
 use Rattle.v8_step.specs.Run.{run}
-use Rattle.two_runs.specs.Needed.{IsUntouched}
-use Rattle.two_runs.specs.TwoRuns.{Answers, IsLeast}
-use Rattle.two_runs.specs.Visits.{pages_of, trail_of}
+use Rattle.two_runs.specs.Needed.{IsUntouched, instr_at, judged_in}
+use Rattle.two_runs.specs.TwoRuns.{Answers, Ends, IsLeast}
+use Rattle.two_runs.specs.Visits.{own_trail, pages_of, trail_of}
 use Rattle.v8_process.specs.Arguments.{AreArguments}
 use Rattle.v8_process.specs.Start.{start_of}
 use Rattle.cfg_normal.specs.Numbers.{node_number}
@@ -63,6 +64,14 @@ pub record IsStop (e : Edit) (entry : ℕ) (s0 t0 : State) (m v : ℕ) : Type 0 
   pub tells : node_at e.notes (run t0 m).pc ≢ None → TellsStep e entry s0 t0 m (v - 1)
   pub placed : (run t0 m).ending ≢ None → node_at e.notes (run t0 m).pc ≢ None
 
+-- Wherever the original stands after n steps: there is a moment at which the written file has visited what these carried
+-- out, has ended as the original has or goes on as that does, with the same memory outside the pages, and has their cells.
+pub record IsMatched (e : Edit) (entry : ℕ) (s0 t0 : State) (n : ℕ) : Type 0 where
+  pub moment : ℕ
+  pub trail : trail_of e.notes t0 moment ≡ own_trail s0 n
+  pub ends : Ends e.notes s0 t0 n moment
+  pub cells : cells_in e.notes (run t0 moment) ≡ store_of e entry s0 n
+
 -- Where the original's first n steps touch no page of the notes:
 pub record AreRunsAlike (e : Edit) (entry : ℕ) (s0 t0 : State) : Type 0 where
   -- Going on and ending, and the store.
@@ -70,6 +79,9 @@ pub record AreRunsAlike (e : Edit) (entry : ℕ) (s0 t0 : State) : Type 0 where
   -- Stops: wherever the run is stopped, with no touch in as many steps as it made visits.
   pub stops : (m : ℕ) → IsUntouched (pages_of e.notes) s0 (visits_by e.notes t0 m)
       → IsStop e entry s0 t0 m (visits_by e.notes t0 m)
+  -- One step more, which judges no byte of the pages either, wherever it leads: into them, too, from the slot of a jump.
+  pub leads : (n : ℕ) → IsUntouched (pages_of e.notes) s0 n
+      → AllApart (pages_of e.notes) (judged_in (run s0 n) (instr_at (run s0 n))) → IsMatched e entry s0 t0 (suc n)
 
 -- for all arguments and every input
 abbrev pub ForEachRun : List ℕ → List ℕ → (State → State → Type 0) → Type 0

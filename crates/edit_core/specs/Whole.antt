@@ -1,10 +1,11 @@
 -- What the runs of a written file are, where its code keeps what the original's run still asks for.
 use Rattle.std.specs.Prelude.{◌≡◌, ℕ, zero, suc, ◌<◌, ◌≤◌, All}
 use Rattle.eel_base.specs.Code.{IsText}
+use Rattle.v8_memory.specs.Spans.{AllApart}
 use Rattle.v8_step.specs.State.{State}
 use Rattle.v8_step.specs.Run.{run}
 use Rattle.v8_step.specs.Items.{StateItem}
-use Rattle.two_runs.specs.Needed.{IsUntouched}
+use Rattle.two_runs.specs.Needed.{IsUntouched, instr_at, judged_in}
 use Rattle.two_runs.specs.Visits.{pages_of}
 use Rattle.two_runs.specs.TwoRuns.{Answers, IsLeast, IsBounded}
 use Rattle.cfg_blocks.specs.Blocks.{blocks_of}
@@ -19,7 +20,7 @@ use Rattle.liveness.specs.Live.{named_on}
 use Rattle.live_walk.specs.Keeps.{IsKeptAt}
 use Rattle.edit_core.specs.Dead.{AreDead}
 use Rattle.edit_core.specs.Runs.{Keeping, RunFacts, Spares, limits_in}
-use Rattle.edit_core.specs.RunsAlike.{EndsAtNode, IsStop, visits_by}
+use Rattle.edit_core.specs.RunsAlike.{EndsAtNode, IsMatched, IsStop, visits_by}
 
 -- what is kept: what the original's run still needs, and what snippets name that come before it is written
 abbrev pub KeptIn : EditSetup → ℕ → State → ℕ → StateItem → Type 0
@@ -45,6 +46,8 @@ pub record Answered (g : EditSetup) (entry : ℕ) (NoLongForms : Type 0) (s0 t0 
   pub cells : (n : ℕ) → n ≤ last → cells_in g.notes (run t0 (moments n)) ≡ store_of (edit_in g) entry s0 n
   pub stops : (m : ℕ) → visits_by g.notes t0 m ≡ last → IsStop (edit_in g) entry s0 t0 m last
   pub over : (n : ℕ) → n ≤ last → EndsAtNode (edit_in g) entry s0 t0 n (moments n)
+  pub leads : AllApart (pages_of g.notes) (judged_in (run s0 last) (instr_at (run s0 last)))
+      → IsMatched (edit_in g) entry s0 t0 (suc last)
 
 abbrev pub EditsAnswer : Type 0
 EditsAnswer =

@@ -9,6 +9,7 @@ ghost use Rattle.cfg_view.specs.Code.{view_seen};
 ghost use Rattle.tool_kit.specs.Code.{IsPlanOf};
 ghost use Rattle.tool_kit.specs.Plans.{Plan};
 ghost use Rattle.edit_core.specs.Taken.{CanEdit};
+ghost use Rattle.edit_core.specs.declared.requests.EditFault.TheVariants as faults;
 ghost use Rattle.edit_core.specs.Code.{EditRefuses, IsEdited, AsksOf, CountsEdges};
 ghost use Rattle.edit_core.specs.Faithful.{AreCounted};
 ghost use Rattle.edit_core.specs.Outwardly.{DoesTheSame};
@@ -73,12 +74,20 @@ pub fn edit_view<F: Chooser>(
         request.cells,
         &request.snips,
     )?;
-    let had = u64::from(view.image.room());
+    keep_room(needed, u64::from(view.image.room()))?;
+    let file = write_edit(alloc, bytes, &view.image, &view.graph, request)?;
+    Ok(file)
+}
+
+// Refuses an edit that needs more room than there is.
+fn keep_room(needed: u64, had: u64) -> Result<(), EditFault>
+    ensures room { OnOk result (needed ≤ had) }
+    ensures refused { IfErr result (λ fault. (fault ≡ faults.Room needed had) × (had < needed)) }
+{
     if had < needed {
         return Err(EditFault::Room { needed, had });
     }
-    let file = write_edit(alloc, bytes, &view.image, &view.graph, request)?;
-    Ok(file)
+    Ok(())
 }
 
 // What a tool asks of a graph, where the snippets of a profile count edges.

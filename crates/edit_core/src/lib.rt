@@ -1,7 +1,7 @@
 //! The edit of a file, and what ties the written file to its original.
 #![tactic(auto)]
 
-ghost use Rattle.edit_core.specs.Code.{EditsAreUntouched, EditsCrashAlike, EditsDoTheSame, GrantedRunsAreAlike};
+ghost use Rattle.edit_core.specs.Code.{CrashesAreUntouched, EditsAreUntouched, EditsCrashAlike, EditsDoTheSame, GrantedRunsAreAlike};
 ghost use Rattle.edit_core.specs.Whole.{EditsAnswer, KeepsWhatLives};
 ghost use Rattle.edit_core.specs.Written.{EditsRunAlike};
 
@@ -47,8 +47,13 @@ pub fn granted_runs_are_alike()
     ensures { GrantedRunsAreAlike }
 {}
 
+/// Nor does it where it is refused bytes below 4096 alone, as by a null pointer.
+pub fn crashes_are_untouched()
+    ensures { CrashesAreUntouched }
+{}
+
 /// A faithful edit looks as its original does up to the end of a run that is refused bytes below 4096 alone, as by a null
-/// pointer.
+/// pointer, or up to the first other access that is refused.
 pub fn edits_crash_alike()
     ensures { EditsCrashAlike }
 {}

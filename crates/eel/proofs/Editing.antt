@@ -10,13 +10,13 @@ pub within : (file : Option (List ℕ × ℕ)) (files : Store) (lines : List ℕ
 within None files lines is = tt
 within (Some file) files lines is = is.within
 
-module _ {old mid : Option Holding} {faults more : ℕ} (same : mid ≡ old) (later : faults ≤ more) (still : Type 0)
+module _ {old mid : Option Holding} {faults more : ℕ} (same : mid ≡ old) (quiet : more ≡ faults) (still : Type 0)
     (next : List ℕ → Type 0) (new : Store) (outcome : Outcome) where
   pub lines_unread : (file : Option (List ℕ × ℕ)) → AreUnread file (store mid more) new outcome → still
       → Takes file still next (store old faults) new outcome
   lines_unread None is kept = absurd is
   lines_unread (Some file) is kept =
-      unread (unread-later old mid faults more new file.0 file.1 outcome same later is) kept
+      unread (unread-later old mid faults more new file.0 file.1 outcome same quiet is) kept
 
   pub lines_read : (file : Option (List ℕ × ℕ)) (lines : List ℕ) → AreLines file (store mid more) lines → next lines
       → Takes file still next (store old faults) new outcome

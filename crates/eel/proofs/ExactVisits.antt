@@ -11,8 +11,10 @@ use Rattle.instr_counts.specs.Visits.{finished, is_begun, leads_to, one_if, runs
 use Rattle.instr_counts.proofs.Counted.{visits_are_counted}
 use Rattle.instr_counts.proofs.Single.{words_are_blocks}
 use Rattle.eel_reports.proofs.Marked.{leads_marked}
-use Rattle.eel.specs.Answers.ExactVisits.{AreExactVisits}
-use Rattle.eel.proofs.ExactProfiles.{are_exact, is_profiled, one_notes}
+use Rattle.exact_counts.proofs.Clear.{ended_runs_are_whole}
+use Rattle.exact_counts.proofs.Exact.{begins_live}
+use Rattle.eel.specs.Answers.ExactVisits.{AreExactVisits, AreOwnVisits, AreVisitsOfWholeRuns}
+use Rattle.eel.proofs.ExactProfiles.{are_exact, is_profiled, none_touched, one_notes}
 
 -- ---- sums of the same counts
 
@@ -151,7 +153,8 @@ exact_visits file notes dump counts visits read flow are = λ original args inpu
     let at : node_at notes (run t0 m).pc ≡ Some flow.node = rw pc at flow.stands.at in
     let placed : node_at notes (run t0 m).pc ≢ None = λ none. cc in
     let stop : IsStop (edit_of original plan notes) (image_of original).entry s0 t0 m v =
-    (is.runs args input made.arguments made.given).stops m made.untouched in
+    (is.runs args input made.arguments made.given).stops m
+    (none_touched original plan file notes made.profile.faithful read args input m made.arguments made.given made.clear) in
     let some : 0 < v = stop.some placed in
     let tells = stop.tells placed in
     let count : suc (v - 1) ≡ v = omega (arith, some) in
@@ -163,4 +166,23 @@ exact_visits file notes dump counts visits read flow are = λ original args inpu
           tells.node tells.address dump counts visits pc own
           (are_exact file notes dump counts read flow original args input m made) (stop.lives placed) word l
           ∙ ap (λ (k : ℕ). times (own_trail s0 k) (address_of (image_of original).text word)) count;
+    }
+
+pub whole_visits : (file : List ℕ) (notes : Notes) (dump : Dump) (counts visits : List ℕ) → notes_of file ≡ Ok notes
+    → AreCounts notes dump counts → AreVisits (every_view (original_in file notes)) notes dump counts visits
+    → AreVisitsOfWholeRuns file notes dump visits
+whole_visits file notes dump counts visits read flow are = λ original args input n m made marked both.
+    let is = profiled file notes dump read original args input m made in
+    let own = exact_visits file notes dump counts visits read flow are original args input m made marked in
+    let whole = ended_runs_are_whole (edit_of original made.plan notes) (image_of original).entry
+    (start_of original args input) (start_of file args input) n m (begins_live original args input)
+    (is.runs args input made.arguments made.given)
+    (none_touched original made.plan file notes made.profile.faithful read args input m made.arguments made.given made.clear)
+    both in
+    record {
+      stands = own.stands;
+      len = own.len;
+      each = λ word l.
+          own.each word l
+          ∙ ap (λ (trail : List ℕ). times trail (address_of (image_of original).text word)) (sym whole.trail);
     }

@@ -9,7 +9,10 @@ use Rattle.edge_ring.specs.Traces.{IsTrace}
 use Rattle.edge_ring.proofs.Stores.{stores_are_rings}
 use Rattle.edge_ring.proofs.Told.{rings_tell}
 use Rattle.eel.specs.Answers.Trace.{trace_plan}
-use Rattle.eel.proofs.ExactProfiles.{one_notes}
+use Rattle.exact_counts.specs.Clear.{AreOver, IsClear}
+use Rattle.exact_counts.proofs.Clear.{ended_runs_are_whole}
+use Rattle.exact_counts.proofs.Exact.{begins_live}
+use Rattle.eel.proofs.ExactProfiles.{none_touched, one_notes}
 
 -- why the last edges of a trace's run may not be told
 abbrev pub MayHide : Dump → RingFault → Type 0
@@ -44,8 +47,7 @@ module _ (bits : ℕ) (original file : List ℕ) (notes : Notes) (trace : IsTrac
   g = edit_of original plan notes
 
   module _ (args : List (List ℕ)) (input : List ℕ) (m : ℕ) (given : AreArguments args) (fed : AreBytes input)
-      (untouched : IsUntouched (pages_of notes) (start_of original args input)
-      (visits_by notes (start_of file args input) m)) where
+      (clear : IsClear notes (start_of original args input) (start_of file args input) m) where
     abbrev entry : ℕ
     entry = (image_of original).entry
 
@@ -63,6 +65,9 @@ module _ (bits : ℕ) (original file : List ℕ) (notes : Notes) (trace : IsTrac
 
     abbrev dump : Dump
     dump = dump_at notes t0 m
+
+    untouched : IsUntouched (pages_of notes) s0 (visits_by notes t0 m)
+    untouched = none_touched original plan file notes trace.faithful read args input m given fed clear
 
     stop : IsStop g entry s0 t0 m (visits_by notes t0 m)
     stop = (runs args input given fed).stops m untouched
@@ -99,6 +104,13 @@ module _ (bits : ℕ) (original file : List ℕ) (notes : Notes) (trace : IsTrac
 
     pub last_told : (edges : List ℕ) → AreLast notes dump edges → edges ≡ last_of bits path
     last_told edges are = let placed = are.whole.placed in (tells (there placed.node placed.at)).last edges are
+
+    pub whole_told : (n : ℕ) → AreOver s0 t0 n m → (edges : List ℕ) → AreLast notes dump edges
+        → edges ≡ last_of bits (walk (image_of original).text (view_of original []).graph entry s0 n)
+    whole_told n both edges are =
+        let whole = ended_runs_are_whole g entry s0 t0 n m (begins_live original args input) (runs args input given fed)
+        untouched both in
+        last_told edges are ∙ ap (last_of bits) (sym whole.walk)
 
     -- between places it hasn't ended
     runs_on : node_at notes (run t0 m).pc ≡ None → (o : Option Ending) → (run t0 m).ending ≡ o

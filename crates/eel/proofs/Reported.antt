@@ -8,8 +8,9 @@ use Rattle.eel_said.specs.declared.command.Report.TheVariants as reports
 use Rattle.eel_said.specs.declared.outcome.CountCause.TheVariants as causes
 use Rattle.eel.specs.Answers.Report.{HasNone, IsExact, IsRefused as IsNotTold, IsReported, IsSeldom, IsUnreported, Reports, Tell, report_means}
 use Rattle.eel.proofs.ExactProfiles.{are_exact, are_of_whole_runs, exact_in, one_notes}
-use Rattle.eel.proofs.ExactVisits.{exact_visits, has_every_word}
-use Rattle.eel.proofs.LastOfWalk.{MayHide, hidden, last_told}
+use Rattle.eel.specs.Answers.LastEdges.{AreLastOfWholeRuns}
+use Rattle.eel.proofs.ExactVisits.{exact_visits, has_every_word, whole_visits}
+use Rattle.eel.proofs.LastOfWalk.{MayHide, hidden, last_told, whole_told}
 use Rattle.eel.proofs.Meanings.{IsByStatus, prints_by_status, lines_printed, reads_printed}
 
 -- ---- what is told is exact
@@ -17,7 +18,13 @@ use Rattle.eel.proofs.Meanings.{IsByStatus, prints_by_status, lines_printed, rea
 are_the_last : (file : List ℕ) (notes : Notes) (dump : Dump) (edges : List ℕ) → notes_of file ≡ Ok notes
     → AreLast notes dump edges → AreTheLast file notes dump edges
 are_the_last file notes dump edges read are = λ bits original args input m run.
-    last_told bits original file notes run.trace read args input m run.arguments run.given run.untouched edges
+    last_told bits original file notes run.trace read args input m run.arguments run.given run.clear edges
+    (subst (λ (d : Dump). AreLast notes d edges) run.is are)
+
+are_last_of_whole_runs : (file : List ℕ) (notes : Notes) (dump : Dump) (edges : List ℕ) → notes_of file ≡ Ok notes
+    → AreLast notes dump edges → AreLastOfWholeRuns file notes dump edges
+are_last_of_whole_runs file notes dump edges read are = λ bits original args input n m run both.
+    whole_told bits original file notes run.trace read args input m run.arguments run.given run.clear n both edges
     (subst (λ (d : Dump). AreLast notes d edges) run.is are)
 
 pub exact : (report : Report) (file : List ℕ) (notes : Notes) (dump : Dump) (lines : List ℕ) → notes_of file ≡ Ok notes
@@ -26,9 +33,14 @@ exact reports.Counts file notes dump lines read tell = (
   are_exact file notes dump tell.counts read tell.are,
   are_of_whole_runs file notes dump tell.counts read tell.are,
 )
-exact reports.Visits file notes dump lines read tell =
-    exact_visits file notes dump tell.counts tell.visits read tell.flow tell.are
-exact reports.LastEdges file notes dump lines read tell = are_the_last file notes dump tell.edges read tell.are
+exact reports.Visits file notes dump lines read tell = (
+  exact_visits file notes dump tell.counts tell.visits read tell.flow tell.are,
+  whole_visits file notes dump tell.counts tell.visits read tell.flow tell.are,
+)
+exact reports.LastEdges file notes dump lines read tell = (
+  are_the_last file notes dump tell.edges read tell.are,
+  are_last_of_whole_runs file notes dump tell.edges read tell.are,
+)
 
 -- ---- by the status
 
@@ -99,7 +111,7 @@ module _ (written file name : List ℕ) (notes : Notes) (dump : Dump) (read : no
     may_hide : (fault : RingFault) → IsRefused notes dump fault → MayHide dump fault
     may_hide fault refused =
         rw run.is
-        (hidden bits original file notes run.trace read args input m run.arguments run.given run.untouched fault
+        (hidden bits original file notes run.trace read args input m run.arguments run.given run.clear fault
         (rw run.is at refused))
 
     misses_edges : (outcome : Outcome) → IsUntold written name notes dump outcome → MayMiss name dump outcome

@@ -124,6 +124,8 @@ impl Files for MemFiles {
         ensures missing { IsMissing (Some self.old.held) name.now → result ≡ Err FetchFault.Failed }
         ensures too_long { IsErrOf result FetchFault.TooLong → IsLonger (Some self.old.held) name.now limit }
         ensures failed { IsErrOf result FetchFault.Failed → IsMissing (Some self.old.held) name.now ⊎ Rose self.old.calls.faults self.new.calls.faults }
+        ensures wanting { IsErrOf result FetchFault.NoMemory → self.new.calls.faults ≡ self.old.calls.faults }
+        ensures unfaulted { OnOk result (self.new.calls.faults ≡ self.old.calls.faults) }
         ensures later { self.old.calls.faults ≤ self.new.calls.faults }
         ensures after { self.new ≡ record self.old { calls = called self.old.calls } }
         ensures fails { IsTrue (is_to_fail self.old.calls) → result ≡ Err FetchFault.Failed }
@@ -213,6 +215,7 @@ impl Source for MemSource {
         ensures unmoved { OnErr result (Some self.new.left ≡ Some self.old.left) }
         ensures unfilled { OnErr result (buf.new ≡ buf.old) }
         ensures failed { OnErr result (Rose self.old.calls.faults self.new.calls.faults) }
+        ensures unfaulted { OnOk result (self.new.calls.faults ≡ self.old.calls.faults) }
         ensures later { self.old.calls.faults ≤ self.new.calls.faults }
         ensures counted { OnOk result (self.new.reads ≡ raised self.old.reads) }
         ensures uncounted { OnErr result (self.new.reads ≡ self.old.reads) }

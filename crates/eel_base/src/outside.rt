@@ -40,6 +40,8 @@ pub trait Files {
         ensures missing { IsMissing (held self.old) name.now → result ≡ Err FetchFault.Failed }
         ensures too_long { IsErrOf result FetchFault.TooLong → IsLonger (held self.old) name.now limit }
         ensures failed { IsErrOf result FetchFault.Failed → IsMissing (held self.old) name.now ⊎ Rose (faults self.old) (faults self.new) }
+        ensures wanting { IsErrOf result FetchFault.NoMemory → faults self.new ≡ faults self.old }
+        ensures unfaulted { OnOk result (faults self.new ≡ faults self.old) }
         ensures later { faults self.old ≤ faults self.new };
 
     /// Puts `bytes` under `name`, in the place of what stood there.
@@ -69,6 +71,7 @@ pub trait Source {
         ensures unmoved { OnErr result (left self.new ≡ left self.old) }
         ensures unfilled { OnErr result (buf.new ≡ buf.old) }
         ensures failed { OnErr result (Rose (faults self.old) (faults self.new)) }
+        ensures unfaulted { OnOk result (faults self.new ≡ faults self.old) }
         ensures later { faults self.old ≤ faults self.new }
         ensures counted { OnOk result (reads self.new ≡ raised (reads self.old)) }
         ensures uncounted { OnErr result (reads self.new ≡ reads self.old) };

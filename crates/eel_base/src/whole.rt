@@ -17,6 +17,7 @@ pub fn read_all<S: Source>(alloc: Global, s: &mut S, limit: u64) -> Result<Vec<u
     ensures too_long { IsErrOf result FetchFault.TooLong → GaveSome (λ count. count ≡ limit + 1) (S.left s.old) (S.left s.new) }
     ensures some { OnErr result (GaveSome (λ count. count ≤ limit + 1) (S.left s.old) (S.left s.new)) }
     ensures failed { IsErrOf result FetchFault.Failed → Rose (S.faults s.old) (S.faults s.new) }
+    ensures wanting { IsErrOf result FetchFault.NoMemory → S.faults s.new ≡ S.faults s.old }
     ensures later { S.faults s.old ≤ S.faults s.new }
     ensures few_reads { S.reads s.new ≤ S.reads s.old + (limit + 2) }
 {
@@ -39,9 +40,10 @@ fn read_more<S: Source>(all: &mut Vec<u8>, s: &mut S, buf: &mut [u8]) -> Result<
     ensures end { IfOk result (λ count. count ≡ 0 → 0 < length buf.old → IsAtEnd (S.left s.old)) }
     ensures counted { OnOk result (S.reads s.new ≤ S.reads s.old + 1) }
     ensures some { OnErr result (GaveSome (λ count. count ≤ length buf.old) (S.left s.old) (S.left s.new)) }
-    ensures memory { IsErrOf result FetchFault.NoMemory → S.reads s.new ≤ S.reads s.old + 1 }
+    ensures memory { IsErrOf result FetchFault.NoMemory → (S.faults s.new ≡ S.faults s.old) × (S.reads s.new ≤ S.reads s.old + 1) }
     ensures failed { IsErrOf result FetchFault.Failed → (Rose (S.faults s.old) (S.faults s.new)) × (S.reads s.new ≤ S.reads s.old) }
     ensures short { IsErrOf result FetchFault.TooLong → ⊥ }
+    ensures unfaulted { OnOk result (S.faults s.new ≡ S.faults s.old) }
     ensures later { S.faults s.old ≤ S.faults s.new }
 {
     let Ok(count) = s.read(buf) else {

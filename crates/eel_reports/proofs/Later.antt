@@ -27,14 +27,14 @@ read-later old mid faults more name limit bytes same read = record {
 }
 
 pub unread-later : (old mid : Option Holding) (faults more : ℕ) (new : Store) (name : List ℕ) (limit : ℕ)
-    (outcome : Outcome) → mid ≡ old → faults ≤ more → IsUnread (store mid more) new name limit outcome
+    (outcome : Outcome) → mid ≡ old → more ≡ faults → IsUnread (store mid more) new name limit outcome
     → IsUnread (store old faults) new name limit outcome
-unread-later old mid faults more new name limit (TooLong named most) same later (is, all, long) =
+unread-later old mid faults more new name limit (TooLong named most) same still (is, all, long) =
     (is, all, subst (λ held. IsLonger held name limit) same long)
-unread-later old mid faults more new name limit OutOfMemory same later held =
-    λ lacks. held (subst (λ here. IsMissing here name) (sym same) lacks)
-unread-later old mid faults more new name limit DeviceFault same later (inl lacks) =
+unread-later old mid faults more new name limit OutOfMemory same still (held, quiet) =
+    ((λ lacks. held (subst (λ here. IsMissing here name) (sym same) lacks)), quiet ∙ still)
+unread-later old mid faults more new name limit DeviceFault same still (inl lacks) =
     inl (subst (λ held. IsMissing held name) same lacks)
-unread-later old mid faults more new name limit DeviceFault same later (inr rose) =
-    inr (rose-before faults more new.faults later rose)
-unread-later old mid faults more new name limit _ same later is = absurd is
+unread-later old mid faults more new name limit DeviceFault same still (inr rose) =
+    inr (rose-before faults more new.faults (omega (arith, still)) rose)
+unread-later old mid faults more new name limit _ same still is = absurd is

@@ -1,5 +1,5 @@
 //! Texts that come in and go out: their bytes, or what comes of it where they can't be had or put.
-ghost use Rattle.std.specs.Prelude.{◌≡◌, ◌≤◌, IfOk, IfErr};
+ghost use Rattle.std.specs.Prelude.{◌≡◌, ◌≤◌, IfOk, IfErr, OnOk};
 ghost use Rattle.eel_said.specs.Code.{outcome_seen};
 ghost use Rattle.eel_said.specs.Seen.{files_seen, input_seen, stream_seen};
 ghost use Rattle.eel_said.specs.Shared.{IsPrinted, IsPut, IsUnread, WasRead};
@@ -34,6 +34,7 @@ pub fn fetch_file<'a, F: Files>(
     ensures unread { IfErr result (λ outcome.
         IsUnread (files_seen F.Files files.old) (files_seen F.Files files.new) name.now limit (outcome_seen outcome)) }
     ensures kept { F.held files.new ≡ F.held files.old }
+    ensures unfaulted { OnOk result (F.faults files.new ≡ F.faults files.old) }
     ensures later { F.faults files.old ≤ F.faults files.new }
 {
     match files.fetch(alloc, name, limit) {

@@ -46,10 +46,11 @@ pub record WasRead (files : Store) (name : List ℕ) (limit : ℕ) (bytes : List
   pub under : AreUnder files.held name bytes
   pub within : length bytes ≤ limit
 
--- The name gave no bytes, and this comes of it: a name that is told to be missing is always a device fault.
+-- The name gave no bytes, and this comes of it: a name that is told to be missing is always a device fault, and no fault is
+-- told as want of memory.
 abbrev pub IsUnread : Store → Store → List ℕ → ℕ → Outcome → Type 0
 IsUnread old new name limit (TooLong named most) = (named ≡ name) × (most ≡ limit) × IsLonger old.held name limit
-IsUnread old new name limit OutOfMemory = IsMissing old.held name → ⊥
+IsUnread old new name limit OutOfMemory = (IsMissing old.held name → ⊥) × (new.faults ≡ old.faults)
 IsUnread old new name limit DeviceFault = IsMissing old.held name ⊎ Rose old.faults new.faults
 IsUnread old new name limit _ = ⊥
 

@@ -3,7 +3,7 @@ pub mod Counters
 pub mod Ends
 pub mod Noted
 pub mod Exact
-pub mod Exits
+pub mod Clear
 pub mod Trees
 pub mod Gone
 pub mod Totals

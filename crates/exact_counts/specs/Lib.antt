@@ -2,5 +2,5 @@ pub mod Profiles
 pub mod Stops
 pub mod Laws
 pub mod Sizes
-pub mod Exits
+pub mod Clear
 pub mod Code

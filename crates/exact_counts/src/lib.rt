@@ -2,7 +2,7 @@
 //! the original's run completes each edge. There is no code here, but definitions and laws.
 #![tactic(auto)]
 
-ghost use Rattle.exact_counts.specs.Code.{CountsOfExitsAreExact};
+ghost use Rattle.exact_counts.specs.Code.{ClearRunsAreUntouched, CountsOfEndedRunsAreExact, EndedRunsAreWhole};
 ghost use Rattle.exact_counts.specs.Laws.{CellsCount, CountsAreExact, ExecutionsAreFew, TreesMakeProfiles, EndedRunsTell};
 ghost use Rattle.exact_counts.specs.Sizes.{ExecutionsAddUp, ProfilesEndSoon, ProfilesNeedLittle};
 
@@ -34,9 +34,19 @@ pub fn counts_are_exact()
     ensures { CountsAreExact }
 {}
 
-/// The counts of a run that ended by `exit`, of an original none of whose buffers was refused, are those of its whole run.
-pub fn counts_of_exits_are_exact()
-    ensures { CountsOfExitsAreExact }
+/// An original that is granted its accesses, or ends by `exit` with none of its buffers refused, touches no added page.
+pub fn clear_runs_are_untouched()
+    ensures { ClearRunsAreUntouched }
+{}
+
+/// Where both runs have ended, what is told of the steps before the last visit is so of the original's whole run.
+pub fn ended_runs_are_whole()
+    ensures { EndedRunsAreWhole }
+{}
+
+/// So the counts of a run that has ended are those of the original's whole run.
+pub fn counts_of_ended_runs_are_exact()
+    ensures { CountsOfEndedRunsAreExact }
 {}
 
 /// The edit of a profile asks for little room, by the words of the text alone.

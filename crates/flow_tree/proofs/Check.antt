@@ -1,7 +1,7 @@
 -- Growth at the weights 1 and 0 tells a spanning tree.
-use Rattle.flow_tree.proofs.Common.{◌≡◌, ℕ, zero, suc, ◌+◌, ◌-◌, ◌<◌, ◌≤◌, ◌⊎◌, inl, inr, Bool, true, false, not, cond, List, [], ◌∷◌, length, refl, ap, ◌∙◌, subst, arith, map, if◌then◌else◌, All, cases_lt, eqb-true, get_or_past, get_or-map, length-map, All-cons, All-nil, All-head, All-tail, Graph, count_below, NodeSet, EdgeSet, rest, weight_in, IsGraph, JoinsNodes, IsLinked, graph_of, marked, HasEveryEnd, IsWhole, far_end, on, and_also, Grows, only, IsSpanningTree, Link, true_or_false, listed_is, tree_if, AllIn, part_count, one_if, tree_only_if, grown_size, same_set, all_count, reached_nodes, weight_rest, edges_in, edges_of, reached_by, IsHeaviestFirst, Join}
+use Rattle.flow_tree.proofs.Common.{◌≡◌, ℕ, zero, suc, ◌+◌, ◌-◌, ◌<◌, Bool, true, false, List, [], ◌∷◌, length, refl, ap, ◌∙◌, subst, arith, map, if◌then◌else◌, All, eqb-true, get_or_past, get_or-map, length-map, All-cons, All-nil, All-head, All-tail, Graph, count_below, NodeSet, EdgeSet, rest, weight_in, IsGraph, JoinsNodes, IsLinked, graph_of, marked, HasEveryEnd, IsWhole, on, Grows, only, IsSpanningTree, Link, listed_is, tree_if, AllIn, part_count, one_if, tree_only_if, grown_size, same_set, all_count, reached_nodes, weight_rest, edges_in, edges_of, reached_by, IsHeaviestFirst, Join}
 use Rattle.flow_tree.specs.declared.Tree.{Tree}
-use Rattle.flow_tree.proofs.Steps.{listed_length, graph_ok}
+use Rattle.flow_tree.proofs.Steps.{listed_length, graph_ok, grows_by}
 
 pub all_in : (d : EdgeSet) (js : List Join) → All (λ j. d j.edge ≡ true) js → AllIn d (edges_in js)
 all_in d [] h = tt
@@ -11,36 +11,13 @@ pub all_from : (d : EdgeSet) (js : List Join) → AllIn d (edges_in js) → All 
 all_from d [] h = All-nil (λ (j : Join). d j.edge ≡ true)
 all_from d (x ∷ xs) h = All-cons (λ (j : Join). d j.edge ≡ true) x xs h.0 (all_from d xs h.1)
 
--- the same growth at weights that are equal on all edges
-grows_at : (g : Graph) (w k : ℕ → ℕ) (es : List ℕ) (s t : NodeSet) → ((e : ℕ) → e < g.edges → w e ≡ k e) → Grows g w s es t → Grows g k s es t
-grows_at g w k [] s t same h = h
-grows_at g w k (x ∷ xs) s t same h = (
-  record {
-    inside = h.0.inside;
-    across = h.0.across;
-    heaviest = λ e l c.
-        let a = h.0.heaviest e l c in
-        let b = same e l in
-        let d = same x h.0.inside in
-        omega (arith, a, b, d);
-  },
-  grows_at g w k xs (and_also s (far_end g s x)) t same h.1,
-)
-
 weights_are : (counted : List Bool) (ws : List ℕ) (e : ℕ) → ws ≡ map (λ (c : Bool). if c then zero else suc zero) counted → e < length counted → weight_in ws e ≡ one_if (rest (marked counted)) e
-weights_are counted ws e h l = ap (λ (ws : List ℕ). weight_in ws e) h ∙ get_or-map (λ (c : Bool). if c then zero else suc zero) counted e false 0 l ∙ turn (marked counted e) 0 1
-  where
-    turn : (b : Bool) (zero one : ℕ) → cond b zero one ≡ cond (not b) one zero
-    turn true z o = refl
-    turn false z o = refl
+weights_are counted ws e h l =
+    rw (h, get_or-map (λ (c : Bool). if c then zero else suc zero) counted e false 0 l) (grind arith)
 
 -- a marked number is below the list's length
 pub marked_below : (marks : List Bool) (v : ℕ) → marked marks v ≡ true → v < length marks
-marked_below marks v h = go (cases_lt v (length marks))
-  where
-    go : (v < length marks) ⊎ (length marks ≤ v) → v < length marks
-    go (inl l) = l
-    go (inr l) = true_or_false (marked marks v) h (get_or_past marks v false l)
+marked_below marks v h = grind (arith, h, get_or_past)
 
 pub linked_nodes : (is_node : List Bool) (links : List Link) → JoinsNodes is_node links → IsLinked (length is_node) links
 linked_nodes is_node links h e d l = let k = h e d l in (marked_below is_node _ k.0, marked_below is_node _ k.1)
@@ -57,7 +34,9 @@ module _ (is_node : List Bool) (links : List Link) (r : ℕ) (counted : List Boo
     (nodes : JoinsNodes is_node links) (root : marked is_node r ≡ true) (few : length counted ≡ length links) (are : ws ≡ map (λ (c : Bool). if c then zero else suc zero) counted)
     (h : Grows (graph_of (length is_node) links) (weight_in ws) (only r) (edges_in js) t) where
   grown : Grows (graph_of (length is_node) links) (one_if (rest (marked counted))) (only r) (edges_in js) t
-  grown = grows_at (graph_of (length is_node) links) (weight_in ws) (one_if (rest (marked counted))) (edges_in js) (only r) t (λ e l. weights_are counted ws e are (omega arith)) h
+  grown = grows_by (graph_of (length is_node) links) (weight_in ws) (one_if (rest (marked counted))) (edges_in js) (only r) t
+      (λ e i l k le.
+      omega (arith, le, weights_are counted ws e are (omega arith), weights_are counted ws i are (omega arith))) h
 
   ok : IsGraph (graph_of (length is_node) links)
   ok = graph_ok (length is_node) links (linked_nodes is_node links nodes)

@@ -1,5 +1,5 @@
 -- The names that more than one proof cites, of this crate and of crates below, passed on from one place. Declares nothing.
-pub use Rattle.std.proofs.Common.{[], ap, arith, Bool, cond, false, get_or, inl, inr, length, List, map, not, refl, rules, set, slice_index, subst, suc, sym, take, true, zero, ℕ, ◌++◌, ◌+◌, ◌-◌, ◌<◌, ◌||◌, ◌∙◌, ◌∷◌, ◌≡◌, ◌≤◌, ◌⊎◌}
+pub use Rattle.std.proofs.Common.{[], ap, arith, Bool, false, get_or, inl, inr, length, List, map, not, refl, rules, set, subst, suc, sym, take, true, zero, ℕ, ◌++◌, ◌+◌, ◌-◌, ◌<◌, ◌||◌, ◌∙◌, ◌∷◌, ◌≡◌, ◌≤◌, ◌⊎◌}
 pub use Rattle.std.specs.Prelude.{if◌then◌else◌, replicate, ◌==◌}
 pub use Rattle.flow_tree.specs.Rows.{AllBelow, HasEnds, IsAttached, Row}
 pub use Rattle.flow_tree.specs.Search.{AreCandidates, candidate, IsReal, IsSearch}
@@ -14,9 +14,9 @@ pub use Rattle.flows.specs.Code.{IsGraph}
 pub use Rattle.flows.specs.Flows.{count_below, Determines, EdgeSet, Graph, IsLeast, NodeSet, rest, weight_in}
 pub use Rattle.flows.specs.Links.{graph_of, IsLinked, JoinsNodes, link_at, marked}
 pub use Rattle.flows.specs.SpanningTrees.{IsSpanningTree}
-pub use Rattle.flows.specs.Trees.{and_also, crosses, differ, far_end, Grows, HasEveryEnd, IsConnected, IsHeaviest, IsWhole, joined_by, on, only}
+pub use Rattle.flows.specs.Trees.{and_also, crosses, far_end, Grows, HasEveryEnd, IsConnected, IsHeaviest, IsWhole, joined_by, on, only}
 pub use Rattle.flows.specs.declared.Link.{Link}
-pub use Rattle.std.proofs.lemmas.Bool.{cases_Bool, cases_eq, cases_lt, eq-eqb, eqb-true, ne_eqb}
+pub use Rattle.std.proofs.lemmas.Bool.{cases_Bool, cases_eq, eqb-true}
 pub use Rattle.std.proofs.lemmas.Grind.{common_steps}
 pub use Rattle.std.proofs.lemmas.List.{ext_get_or, get_or-map, get_or-replicate, get_or-set_other, get_or-set_same, get_or_past, get_or_read, length-map, length-replicate, length-set, take_all, take_more}
 pub use Rattle.std.proofs.lemmas.List.Elements.{All-cons, All-contains, All-head, All-nil, All-tail, Contains-append_cases}

@@ -1,16 +1,17 @@
 -- One step of the search.
-use Rattle.flow_tree.proofs.Common.{◌≡◌, ℕ, ◌+◌, ◌<◌, ◌≤◌, ◌⊎◌, inl, inr, Bool, true, false, not, ◌||◌, List, [], ◌∷◌, ◌++◌, length, refl, ap, sym, ◌∙◌, subst, arith, get_or, set, take, ◌==◌, All, Contains, cases_eq, cases_lt, eq-eqb, ne_eqb, replicate, length-map, get_or-set_same, get_or-set_other, get_or-replicate, get_or_past, length-replicate, take_more, All-contains, All-nil, All-cons, Graph, IsLeast, NodeSet, rest, Determines, weight_in, IsGraph, link_at, graph_of, marked, IsLinked, on, only, and_also, differ, crosses, far_end, IsHeaviest, Grows, IsWhole, joined_by, IsConnected, IsSpanningTree, Link, differ_same, not_twice, ends_of, least_alike, off_tree_least, off_grown_determines, determines_alike, grown_count, same_set, all_count, connected_spans, spanning_alike, connected_ends, weight_one, Row, HasEnds, IsAttached, candidate, IsReal, IsSearch, edges_in, nodes_in, IsGrown, RisesWith, edges_of, reached_by, Join, Candidate}
-use Rattle.std.proofs.Math.Bool.{or-true, or-false}
+use Rattle.flow_tree.proofs.Common.{◌≡◌, ℕ, ◌+◌, ◌<◌, ◌≤◌, ◌⊎◌, inl, inr, Bool, true, false, not, ◌||◌, List, [], ◌∷◌, ◌++◌, length, refl, ap, sym, ◌∙◌, subst, arith, get_or, set, take, ◌==◌, All, Contains, replicate, length-map, get_or-set_other, get_or-replicate, get_or_past, length-replicate, take_more, All-contains, All-nil, All-cons, Graph, IsLeast, NodeSet, rest, Determines, weight_in, IsGraph, graph_of, marked, IsLinked, on, only, and_also, crosses, far_end, IsHeaviest, Grows, IsWhole, joined_by, IsConnected, IsSpanningTree, Link, differ_same, not_twice, ends_of, least_alike, off_tree_least, off_grown_determines, determines_alike, grown_count, same_set, all_count, connected_spans, spanning_alike, connected_ends, weight_one, Row, HasEnds, IsAttached, candidate, IsReal, IsSearch, edges_in, nodes_in, IsGrown, RisesWith, edges_of, reached_by, Join, Candidate}
+use Rattle.std.proofs.Math.Bool.{or-false}
 use Rattle.flows.proofs.Grown.{listed_weight}
+use Rattle.std.proofs.lemmas.Grind.{get_or-set_at}
+use Rattle.std.proofs.lemmas.List.{map-append}
 use Rattle.flow_tree.specs.declared.growth.Search.{Search}
 
 -- ---- a mark more
 pub marked_set : (marks : List Bool) (v : ℕ) → v < length marks → marked (set marks v true) ≡ and_also (marked marks) v
-marked_set marks v l = λ i u. at u (cases_eq u v) i
+marked_set marks v l = λ i u. at u i
   where
-    at : (u : ℕ) → (u ≡ v) ⊎ (u ≡ v → ⊥) → get_or (set marks v true) u false ≡ (get_or marks u false || (u == v))
-    at u (inl c) = ap (λ u. get_or (set marks v true) u false) c ∙ get_or-set_same marks v true false l ∙ sym (or-true (get_or marks u false)) ∙ ap (λ b. get_or marks u false || b) (sym (eq-eqb u v c))
-    at u (inr c) = get_or-set_other marks v u true false c ∙ sym (or-false (get_or marks u false)) ∙ ap (λ b. get_or marks u false || b) (sym (ne_eqb u v c))
+    at : (u : ℕ) → get_or (set marks v true) u false ≡ (get_or marks u false || (u == v))
+    at u = grind (arith, get_or-set_at, get_or-set_other)
 
 -- ---- an edge more at the end
 pub grows_more : (g : Graph) (w : ℕ → ℕ) (es : List ℕ) (s t : NodeSet) (e : ℕ) → Grows g w s es t → IsHeaviest g w t e → Grows g w s (es ++ e ∷ []) (and_also t (far_end g t e))
@@ -32,15 +33,7 @@ heaviest_here n links ws s items x el real there across held greatest =
 
 -- what crosses with v in crossed before, or it is an edge at v
 newly : (g : Graph) (s : NodeSet) (v e : ℕ) → crosses g (and_also s v) e ≡ true → (crosses g s e ≡ true) ⊎ ((g.from e ≡ v) ⊎ (g.to e ≡ v))
-newly g s v e h = go (cases_eq (g.from e) v) (cases_eq (g.to e) v)
-  where
-    go : (g.from e ≡ v) ⊎ (g.from e ≡ v → ⊥) → (g.to e ≡ v) ⊎ (g.to e ≡ v → ⊥) → (crosses g s e ≡ true) ⊎ ((g.from e ≡ v) ⊎ (g.to e ≡ v))
-    go (inl a) b = inr (inl a)
-    go (inr a) (inl b) = inr (inr b)
-    go (inr a) (inr b) =
-        let p : and_also s v (g.from e) ≡ s (g.from e) = ap (λ c. s (g.from e) || c) (ne_eqb (g.from e) v a) ∙ or-false (s (g.from e)) in
-        let q : and_also s v (g.to e) ≡ s (g.to e) = ap (λ c. s (g.to e) || c) (ne_eqb (g.to e) v b) ∙ or-false (s (g.to e)) in
-        inl (ap (λ c. differ c (s (g.to e))) (sym p) ∙ ap (differ (and_also s v (g.from e))) (sym q) ∙ h)
+newly g s v e h = grind arith
 
 -- every edge that crosses is on the heap again
 pub held_again : (n : ℕ) (links : List Link) (ws : List ℕ) (rows : List Row) (s : NodeSet) (old mid new : List Candidate) (x : ℕ) (v : ℕ) →
@@ -51,47 +44,30 @@ pub held_again : (n : ℕ) (links : List Link) (ws : List ℕ) (rows : List Row)
     HasEnds links (length links) rows →
     ((e : ℕ) → IsAttached rows v e → crosses (graph_of n links) (and_also s v) e ≡ true → Contains new (candidate ws e)) →
     (e : ℕ) → e < length links → crosses (graph_of n links) (and_also s v) e ≡ true → Contains new (candidate ws e)
-held_again n links ws rows s old mid new x v vf across held others kept ends added e l h = go (newly (graph_of n links) s v e h)
+held_again n links ws rows s old mid new x v vf across held others kept ends added e l h =
+    elim (newly (graph_of n links) s v e h) [
+      | inl k ↦ elim (others (candidate ws e) (held e l k) k) [ inl m ↦ kept (candidate ws e) m | inr c ↦ absurd (not_x c) ]
+      | inr (inl c) ↦ added e (rw c at (ends e l).0) h
+      | inr (inr c) ↦ added e (rw c at (ends e l).1) h
+    ]
   where
-    g : Graph
-    g = graph_of n links
-
-    gone : crosses (graph_of n links) (and_also s v) x ≡ false
-    gone =
-        let d = ends_of (graph_of n links) s x across in
-        ap (λ v. crosses (graph_of n links) (and_also s v) x) vf ∙ differ_same _ _ d.from_in d.to_in
-
     not_x : e ≡ x → ⊥
-    not_x c = let t : true ≡ false = sym h ∙ ap (crosses (graph_of n links) (and_also s v)) c ∙ gone in absurd (cc)
-
-    mids : Contains mid (candidate ws e) ⊎ (e ≡ x) → Contains new (candidate ws e)
-    mids (inl m) = kept (candidate ws e) m
-    mids (inr c) = absurd (not_x c)
-
-    go : (crosses (graph_of n links) s e ≡ true) ⊎ (((link_at links e).from ≡ v) ⊎ ((link_at links e).to ≡ v)) → Contains new (candidate ws e)
-    go (inl k) = mids (others (candidate ws e) (held e l k) k)
-    go (inr (inl c)) = added e (subst (λ u. IsAttached rows u e) c (ends e l).0) h
-    go (inr (inr c)) = added e (subst (λ u. IsAttached rows u e) c (ends e l).1) h
+    not_x c = let d = ends_of (graph_of n links) s x across in let gone = differ_same _ _ d.from_in d.to_in in absurd (cc)
 
 -- ---- the start
 pub begun_marks : (n root : ℕ) (marks : List Bool) → marks ≡ replicate n false → root < length marks → marked (set marks root true) ≡ only root
-begun_marks n root marks e l = marked_set marks root l ∙ (λ i. and_also (none i) root)
+begun_marks n root marks e l = marked_set marks root l ∙ (λ i. and_also (λ v. none v i) root)
   where
-    at : (v : ℕ) → (v < n) ⊎ (n ≤ v) → get_or (replicate n false) v false ≡ false
-    at v (inl l) = get_or-replicate n v false false l
-    at v (inr l) = get_or_past (replicate n false) v false (let k = length-replicate n false in omega (arith, k))
-
-    none : marked marks ≡ (λ (v : ℕ). false)
-    none = ap marked e ∙ (λ i v. at v (cases_lt v n) i)
+    none : (v : ℕ) → marked marks v ≡ false
+    none v = grind (arith, get_or-replicate, get_or_past, length-replicate)
 
 pub held_first : (n root : ℕ) (links : List Link) (ws : List ℕ) (rows : List Row) (new : List Candidate) → HasEnds links (length links) rows → ((e : ℕ) → IsAttached rows root e → crosses (graph_of n links) (only root) e ≡ true → Contains new (candidate ws e)) →
     (e : ℕ) → e < length links → crosses (graph_of n links) (only root) e ≡ true → Contains new (candidate ws e)
-held_first n root links ws rows new ends added e l h = go (newly (graph_of n links) (λ w. false) root e h)
-  where
-    go : (false ≡ true) ⊎ (((link_at links e).from ≡ root) ⊎ ((link_at links e).to ≡ root)) → Contains new (candidate ws e)
-    go (inl k) = absurd (cc)
-    go (inr (inl c)) = added e (subst (λ u. IsAttached rows u e) c (ends e l).0) h
-    go (inr (inr c)) = added e (subst (λ u. IsAttached rows u e) c (ends e l).1) h
+held_first n root links ws rows new ends added e l h = elim (newly (graph_of n links) (λ w. false) root e h) [
+  | inl k ↦ absurd (cc)
+  | inr (inl c) ↦ added e (rw c at (ends e l).0) h
+  | inr (inr c) ↦ added e (rw c at (ends e l).1) h
+]
 
 -- ---- the end
 pub graph_ok : (n : ℕ) (links : List Link) → IsLinked n links → IsGraph (graph_of n links)
@@ -99,7 +75,7 @@ graph_ok n links h e l = h e _ l
 
 pub listed_length : (es : List ℕ) → listed_weight (λ e. 1) es ≡ length es
 listed_length [] = refl
-listed_length (x ∷ xs) = let a = listed_length xs in omega (arith, a)
+listed_length (x ∷ xs) = omega (arith, listed_length xs)
 
 -- one edge fewer than numbers: no number is left
 pub everything_at_end : (g : Graph) (w : ℕ → ℕ) (es : List ℕ) (r : ℕ) (t : NodeSet) → IsGraph g → r < g.nodes → Grows g w (only r) es t → length es + 1 ≡ g.nodes →
@@ -114,16 +90,12 @@ everything_at_end g w es r t ok lr h e v l =
 pub whole_at_end : (g : Graph) (w : ℕ → ℕ) (es : List ℕ) (r : ℕ) (t : NodeSet) → IsGraph g → r < g.nodes → Grows g w (only r) es t → length es + 1 ≡ g.nodes → IsWhole g t
 whole_at_end g w es r t ok lr h e i l =
     let all = everything_at_end g w es r t ok lr h e in
-    ap (λ b. differ b (t (g.to i))) (all (g.from i) (ok i l).0) ∙ ap not (all (g.to i) (ok i l).1)
+    rw (all (g.from i) (ok i l).0, all (g.to i) (ok i l).1) refl
 
 -- ---- sets of edges
 pub on_push : (xs : List ℕ) (y e : ℕ) → on (xs ++ y ∷ []) e ≡ (on xs e || (e == y))
 on_push [] y e = or-false (e == y)
-on_push (x ∷ xs) y e = ap (λ b. (e == x) || b) (on_push xs y e) ∙ assoc (e == x) (on xs e) (e == y)
-  where
-    assoc : (a b c : Bool) → (a || (b || c)) ≡ ((a || b) || c)
-    assoc true b c = refl
-    assoc false b c = refl
+on_push (x ∷ xs) y e = let rest = on_push xs y e in grind (arith, rest)
 
 -- only edges of the graph are taken
 pub joins_inside : (g : Graph) (w : ℕ → ℕ) (js : List Join) (s t : NodeSet) → Grows g w s (edges_in js) t → All (λ (j : Join). j.edge < g.edges) js
@@ -143,7 +115,8 @@ counted_spans n links w r es t off is_node lr ok h whole same c =
     (connected_spans (graph_of n links) is_node w r es t (graph_ok n links ok) lr c h whole)
 
 -- a growth by ranks is one by weights that rise with them
-grows_by : (g : Graph) (rank weight : ℕ → ℕ) (es : List ℕ) (s t : NodeSet) → RisesWith g.edges rank weight → Grows g rank s es t → Grows g weight s es t
+pub grows_by : (g : Graph) (rank weight : ℕ → ℕ) (es : List ℕ) (s t : NodeSet) → RisesWith g.edges rank weight
+    → Grows g rank s es t → Grows g weight s es t
 grows_by g rank weight [] s t rises h = h
 grows_by g rank weight (x ∷ xs) s t rises h = (
   record { inside = h.0.inside; across = h.0.across; heaviest = λ e l c. rises x e h.0.inside l (h.0.heaviest e l c) },
@@ -161,12 +134,10 @@ counted_least n links rank weight r es t off is_node lr ok rises h whole same c 
 
 -- ---- joins
 pub edges-push : (xs : List Join) (j : Join) → edges_in (xs ++ j ∷ []) ≡ edges_in xs ++ j.edge ∷ []
-edges-push [] j = refl
-edges-push (x ∷ xs) j = ap (λ (es : List ℕ). x.edge ∷ es) (edges-push xs j)
+edges-push xs j = simp (map-append)
 
 pub nodes-push : (xs : List Join) (j : Join) → nodes_in (xs ++ j ∷ []) ≡ nodes_in xs ++ j.node ∷ []
-nodes-push [] j = refl
-nodes-push (x ∷ xs) j = ap (λ (es : List ℕ). x.node ∷ es) (nodes-push xs j)
+nodes-push xs j = simp (map-append)
 
 pub joined_by-push : (g : Graph) (w : ℕ → ℕ) (es : List ℕ) (s t : NodeSet) (e : ℕ) → Grows g w s es t → joined_by g s (es ++ e ∷ []) ≡ joined_by g s es ++ far_end g t e ∷ []
 joined_by-push g w [] s t e h = ap (λ (u : NodeSet). far_end g u e ∷ []) (sym h)
@@ -174,12 +145,15 @@ joined_by-push g w (x ∷ xs) s t e h = ap (λ (ys : List ℕ). far_end g s x �
 
 -- a growth heaviest first is a growth
 pub grows_anyhow : (g : Graph) (w : ℕ → ℕ) (es : List ℕ) (s t : NodeSet) → Grows g w s es t → Grows g (λ e. 0) s es t
-grows_anyhow g w [] s t h = h
-grows_anyhow g w (x ∷ xs) s t h = (record { inside = h.0.inside; across = h.0.across; heaviest = λ e l c. omega arith }, grows_anyhow g w xs (and_also s (far_end g s x)) t h.1)
+grows_anyhow g w es s t h = grows_by g w (λ e. 0) es s t (λ e h l k le. omega arith) h
 
 pub search_grown : (n m : ℕ) (links : List Link) (ws : List ℕ) (s : Search) → m ≡ n → IsSearch m links ws s → IsGrown (graph_of n links) s.tree
-search_grown n m links ws s e h = subst (λ (n : ℕ). IsGrown (graph_of n links) s.tree) e
-    (record { len = h.len; inside = joins_inside (graph_of m links) (weight_in ws) s.tree.joins.items (only s.tree.root) (reached_by s.tree) h.grows; grows = grows_anyhow (graph_of m links) (weight_in ws) (edges_of s.tree) (only s.tree.root) (reached_by s.tree) h.grows; nodes = h.nodes })
+search_grown n m links ws s e h = rw (← e) (record {
+  len = h.len;
+  inside = joins_inside (graph_of m links) (weight_in ws) s.tree.joins.items _ _ h.grows;
+  grows = grows_anyhow (graph_of m links) (weight_in ws) _ _ _ h.grows;
+  nodes = h.nodes;
+})
 
 pub search_whole : (n : ℕ) (links : List Link) (ws : List ℕ) (s : Search) → IsLinked n links → s.tree.root < n → length s.tree.joins.items + 1 ≡ n → IsSearch n links ws s → IsWhole (graph_of n links) (reached_by s.tree)
 search_whole n links ws s ok l e h =
@@ -189,18 +163,9 @@ search_whole n links ws s ok l e h =
 -- the edges of one join more
 pub on_more : (js : List Join) (i : ℕ) (d : Join) (e : ℕ) → i < length js → on (edges_in (take (i + 1) js)) e ≡ (on (edges_in (take i js)) e || (e == (get_or js i d).edge))
 on_more js i d e l =
-    ap (λ (js : List Join). on (edges_in js) e) (take_more js i d l)
-    ∙ ap (λ (es : List ℕ). on es e) (edges-push (take i js) (get_or js i d))
-    ∙ on_push (edges_in (take i js)) (get_or js i d).edge e
+    rw (take_more js i d l, edges-push (take i js) (get_or js i d)) (on_push (edges_in (take i js)) (get_or js i d).edge e)
 
 pub off_more : (off : List Bool) (js : List Join) (i e : ℕ) (d : Join) → i < length js → (get_or js i d).edge < length off → marked off e ≡ not (on (edges_in (take i js)) e) →
     marked (set off (get_or js i d).edge false) e ≡ not (on (edges_in (take (i + 1) js)) e)
-off_more off js i e d l m h = go (cases_eq e (get_or js i d).edge) ∙ ap not (sym (on_more js i d e l))
-  where
-    go : (e ≡ (get_or js i d).edge) ⊎ (e ≡ (get_or js i d).edge → ⊥) → marked (set off (get_or js i d).edge false) e ≡ not (on (edges_in (take i js)) e || (e == (get_or js i d).edge))
-    go (inl k) =
-        ap (λ e. get_or (set off (get_or js i d).edge false) e false) k ∙ get_or-set_same off (get_or js i d).edge false false m
-        ∙ ap not (sym (ap (λ b. on (edges_in (take i js)) e || b) (eq-eqb e (get_or js i d).edge k) ∙ or-true (on (edges_in (take i js)) e)))
-    go (inr k) =
-        get_or-set_other off (get_or js i d).edge e false false k ∙ h
-        ∙ ap not (sym (ap (λ b. on (edges_in (take i js)) e || b) (ne_eqb e (get_or js i d).edge k) ∙ or-false (on (edges_in (take i js)) e)))
+off_more off js i e d l m h =
+    rw (on_more js i d e l) (grind (arith, h, get_or-set_at, get_or-set_other))

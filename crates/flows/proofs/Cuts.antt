@@ -7,12 +7,9 @@ use Rattle.flows.proofs.Nets.{part, net, all_but, part_same}
 abbrev pub Balanced : Graph → NodeSet → (ℕ → ℤ) → Type 0
 Balanced g s x = (v : ℕ) → v < g.nodes → s v ≡ false → net g (only v) x ≡ pos 0
 
-part_join : (p q r t : Bool) (z : ℤ) → (p ≡ true → r ≡ true → ⊥) → (q ≡ true → t ≡ true → ⊥) → part (p || r) (q || t) z ≡ part p q z +ℤ part r t z
-part_join p q r t z a b = grind arith
-
 pub net_join : (g : Graph) (u r : NodeSet) (x : ℕ → ℤ) → ((w : ℕ) → u w ≡ true → r w ≡ true → ⊥) → net g (λ w. u w || r w) x ≡ net g u x +ℤ net g r x
 net_join g u r x a =
-    total_same g.edges _ _ (λ e l. part_join (u (g.to e)) (u (g.from e)) (r (g.to e)) (r (g.from e)) (x e) (a (g.to e)) (a (g.from e)))
+    total_same g.edges _ _ (λ e l. let into = a (g.to e) in let out = a (g.from e) in grind (arith, into, out))
     ∙ total_add g.edges (λ e. part (u (g.to e)) (u (g.from e)) (x e)) (λ e. part (r (g.to e)) (r (g.from e)) (x e))
 
 -- two sets with the same nodes

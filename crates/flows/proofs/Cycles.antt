@@ -55,10 +55,7 @@ no_cycle_if g d ok det (a, s, ss, h) =
     grind (arith, z, n)
   where
     la : a < g.nodes
-    la = let k = ok s.edge h.0 in rw h.2 at (end s.forward k.0 k.1)
-      where
-        end : (b : Bool) → g.from s.edge < g.nodes → g.to s.edge < g.nodes → cond b (g.from s.edge) (g.to s.edge) < g.nodes
-        end b p q = grind arith
+    la = let k = ok s.edge h.0 in let at = h.2 in grind (arith, k, at)
 
     agree : AgreeOn g d (carried (s ∷ ss)) (λ e. pos 0)
     agree e l t = not_taken (s ∷ ss) e (within_trail g (rest d) a a (s ∷ ss) e h (ap not t))
@@ -143,9 +140,6 @@ not_below (suc n) e l = let r = not_below n e in grind (arith, r)
 abbrev first : EdgeSet → ℕ → EdgeSet
 first f n = λ e. f e && below n e
 
-first_without : (f : EdgeSet) (n e : ℕ) → f n ≡ false → first f n e ≡ false → first f (suc n) e ≡ false
-first_without f n e h k = grind arith
-
 wider_trail : (g : Graph) (f : EdgeSet) (n a b : ℕ) (ss : List Step) → IsTrail g (first f n) a ss b → IsTrail g f a ss b
 wider_trail g f n a b [] h = h
 wider_trail g f n a b (s ∷ ss) h = (h.0, (and_parts (f s.edge) _ h.1).0, h.2, h.3, wider_trail g f n (head g s) b ss h.4)
@@ -168,7 +162,7 @@ cut_edge g f n s x ok l none sf st wx bx =
 one_more : (g : Graph) (f : EdgeSet) (n : ℕ) → IsGraph g → n < g.edges → Independent g nowhere (first f n) → HasCycle g f ⊎ Independent g nowhere (first f (suc n))
 one_more g f n ok l ind = elim (cases_Bool (f n)) [
   | inl t ↦ closed t (led_or_parted g (first f n) (g.from n) (g.to n) ok)
-  | inr h ↦ inr (λ x wx bx. ind x (λ e m k. wx e m (first_without f n e h k)) bx)
+  | inr h ↦ inr (λ x wx bx. ind x (λ e m k. wx e m (grind (arith, h, k))) bx)
 ]
   where
     closed : f n ≡ true → Led g (first f n) (g.from n) (g.to n) ⊎ Parted g (first f n) (g.from n) (g.to n) → HasCycle g f ⊎ Independent g nowhere (first f (suc n))

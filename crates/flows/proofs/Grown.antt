@@ -57,9 +57,6 @@ module _ (g : Graph) (w : ℕ → ℕ) (s : NodeSet) (v : ℕ) (f : ℕ → Bool
     (ind : Independent g s f) (sv : s v ≡ false)
     (heaviest : (h : ℕ) → h < g.edges → crosses g s h ≡ true → w h ≤ c)
     (rest : (f : ℕ → Bool) → Independent g (and_also s v) f → weight_of g w f ≤ r) where
-  used : (x : ℕ → ℤ) (h : ℕ) → Within g f x → 0 < nat_abs (x h) → h < g.edges → f h ≡ true
-  used x h wx n l = let a = wx h l in grind arith
-
   balanced : (x : ℕ → ℤ) → Balanced g (and_also s v) x → net g (only v) x ≡ pos 0 → Balanced g s x
   balanced x b z t l c = elim (cases_eq t v) [ inl e ↦ rw e z | inr e ↦ b t l (or_from (s t) (t == v) c (ne_eqb t v e)) ]
 
@@ -71,7 +68,7 @@ module _ (g : Graph) (w : ℕ → ℕ) (s : NodeSet) (v : ℕ) (f : ℕ → Bool
         absurd (omega (arith, rw z at n))
     | inr (h, l, t, m) ↦
         let b = rest (without f h) (all_zero g s v f x h ind wx bx l m) in
-        absurd (omega (arith, heaviest h l t, b, weight_less g.edges w f h l (used x h wx m l)))
+        absurd (omega (arith, heaviest h l t, b, weight_less g.edges w f h l (let a = wx h l in grind (arith, a, m))))
   ]
 
   pub bound : weight_of g w f ≤ c + r

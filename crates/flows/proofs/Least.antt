@@ -3,7 +3,7 @@ use Rattle.flows.proofs.Common.{◌≡◌, ℕ, ◌+◌, ◌<◌, ◌≤◌, ◌
 use Rattle.flows.proofs.Bools.{true_or_false, not_twice}
 use Rattle.flows.proofs.Cuts.{Balanced, balanced_all}
 use Rattle.flows.proofs.Grown.{Within, Independent, far_out, listed_weight, heaviest_tree}
-use Rattle.flows.proofs.Nets.{part, net, net_is, net_sub, part_zero}
+use Rattle.flows.proofs.Nets.{part, net_is, net_sub, part_zero}
 use Rattle.flows.proofs.Sums.{total_same, total_zero, total_one}
 use Rattle.flows.proofs.Weights.{weight_same, weight_none, weight_more, weight_rest}
 
@@ -38,9 +38,6 @@ listed_is g w k (x ∷ xs) s t h =
 abbrev clear : (ℕ → ℤ) → ℕ → ℕ → ℤ
 clear x e i = if i == e then pos 0 else x i
 
-clear_net : (g : Graph) (x : ℕ → ℤ) (e u : ℕ) → (g.from e ≡ u → ⊥) → (g.to e ≡ u → ⊥) → net g (only u) (clear x e) ≡ net g (only u) x
-clear_net g x e u a b = total_same g.edges _ _ (λ i l. grind arith)
-
 pub no_cycle : (g : Graph) (w : ℕ → ℕ) (es : List ℕ) (s t : NodeSet) → IsGraph g → Grows g w s es t → Independent g s (on es)
 no_cycle g w [] s t ok h x wx bx = λ e l. wx e l refl
 no_cycle g w (a ∷ es) s t ok h x wx bx = all (λ e l c. let k = no_cycle g w es (and_also s (far_end g s a)) t ok h.1 (clear x a) within balanced e l in grind (arith, k))
@@ -55,7 +52,9 @@ no_cycle g w (a ∷ es) s t ok h x wx bx = all (λ e l c. let k = no_cycle g w e
     apart u p m n c = true_or_false (and_also s (far_end g s a) p) n (ap (and_also s (far_end g s a)) c ∙ m)
 
     balanced : Balanced g (and_also s (far_end g s a)) (clear x a)
-    balanced u l m = clear_net g x a u (apart u (g.from a) m d.from_in) (apart u (g.to a) m d.to_in) ∙ bx u l (or_parts (s u) _ m).0
+    balanced u l m =
+        let p = apart u (g.from a) m d.from_in in let q = apart u (g.to a) m d.to_in in
+        total_same g.edges _ _ (λ i k. grind (arith, p, q)) ∙ bx u l (or_parts (s u) _ m).0
 
     alone : ((e : ℕ) → e < g.edges → (e ≡ a → ⊥) → x e ≡ pos 0) → part (g.to a == far_end g s a) (g.from a == far_end g s a) (x a) ≡ pos 0
     alone f =

@@ -1,5 +1,5 @@
 -- What crosses into a set of nodes, and independent sets of edges.
-use Rattle.flows.proofs.Common.{◌≡◌, ℕ, Bool, true, false, not, cond, refl, ◌∙◌, arith, ℤ, pos, ◌+ℤ◌, ◌-ℤ◌, ◌*ℤ◌, neg_ℤ, ◌==◌, if◌then◌else◌, ints, Graph, NodeSet, total, sum_in, sum_out, only}
+use Rattle.flows.proofs.Common.{◌≡◌, ℕ, Bool, true, false, not, refl, ◌∙◌, arith, ℤ, pos, ◌+ℤ◌, ◌-ℤ◌, ◌*ℤ◌, neg_ℤ, ◌==◌, if◌then◌else◌, ints, Graph, NodeSet, total, sum_in, sum_out, only}
 use lib.IntN.{*ℤ-zero}
 use Rattle.flows.proofs.Sums.{mul_add, total_same, total_sub, total_scale}
 
@@ -21,9 +21,6 @@ all_but s = λ w. not (s w)
 pub part_zero : (p q : Bool) → part p q (pos 0) ≡ pos 0
 part_zero p q = grind arith
 
-part_split : (p q : Bool) (z : ℤ) → part p q z ≡ cond p z (pos 0) -ℤ cond q z (pos 0)
-part_split p q z = grind arith
-
 pub part_same : (p : Bool) (z : ℤ) → part p p z ≡ pos 0
 part_same p z = grind arith
 
@@ -36,13 +33,10 @@ part_mix false true k l y z = omega (arith, ints, mul_neg k y, mul_neg l z)
 part_mix true true k l y z = omega (arith, ints, *ℤ-zero k, *ℤ-zero l)
 part_mix false false k l y z = omega (arith, ints, *ℤ-zero k, *ℤ-zero l)
 
-part_sub : (p q : Bool) (y z : ℤ) → part p q (y -ℤ z) ≡ part p q y -ℤ part p q z
-part_sub p q y z = grind arith
-
 -- ---- nets
 pub net_is : (g : Graph) (v : ℕ) (x : ℕ → ℤ) → net g (only v) x ≡ sum_in g x v -ℤ sum_out g x v
 net_is g v x =
-    total_same g.edges _ _ (λ e l. part_split (g.to e == v) (g.from e == v) (x e))
+    total_same g.edges _ _ (λ e l. grind arith)
     ∙ total_sub g.edges (λ e. if g.to e == v then x e else pos 0) (λ e. if g.from e == v then x e else pos 0)
 
 pub net_mix : (g : Graph) (u : NodeSet) (k l : ℤ) (y z : ℕ → ℤ) → net g u (λ e. k *ℤ y e -ℤ l *ℤ z e) ≡ k *ℤ net g u y -ℤ l *ℤ net g u z
@@ -55,5 +49,5 @@ net_mix g u k l y z =
 
 pub net_sub : (g : Graph) (u : NodeSet) (y z : ℕ → ℤ) → net g u (λ e. y e -ℤ z e) ≡ net g u y -ℤ net g u z
 net_sub g u y z =
-    total_same g.edges _ _ (λ e b. part_sub (u (g.to e)) (u (g.from e)) (y e) (z e))
+    total_same g.edges _ _ (λ e b. grind arith)
     ∙ total_sub g.edges (λ e. part (u (g.to e)) (u (g.from e)) (y e)) (λ e. part (u (g.to e)) (u (g.from e)) (z e))

@@ -147,9 +147,6 @@ pub record GrownIn (g : Graph) (d : EdgeSet) (s : NodeSet) : Type 0 where
   pub inside : AllIn d edges
   pub none : NoneCrosses g d reached
 
-step_heaviest : (g : Graph) (d : EdgeSet) (s : NodeSet) (e : ℕ) → e < g.edges → d e ≡ true → crosses g s e ≡ true → IsHeaviest g (one_if d) s e
-step_heaviest g d s e l t c = record { inside = l; across = c; heaviest = λ h m k. grind arith }
-
 fewer_outside : (g : Graph) (s : NodeSet) (e : ℕ) → IsGraph g → e < g.edges → crosses g s e ≡ true →
     count_below g.nodes (λ v. not (s v)) ≡ 1 + count_below g.nodes (λ v. not (and_also s (far_end g s e) v))
 fewer_outside g s e ok l c =
@@ -166,7 +163,8 @@ grow_in g d (suc most) s ok small = elim (search_edge g d s g.edges) [
   | inr n ↦ record { edges = []; reached = s; grows = refl; inside = tt; none = n }
   | inl (e, l, t, c) ↦
       let r = grow_in g d most (and_also s (far_end g s e)) ok (omega (arith, fewer_outside g s e ok l c)) in
-      record { edges = e ∷ r.edges; reached = r.reached; grows = (step_heaviest g d s e l t c, r.grows); inside = (t, r.inside); none = r.none }
+      let first : IsHeaviest g (one_if d) s e = record { inside = l; across = c; heaviest = λ h m k. grind arith } in
+      record { edges = e ∷ r.edges; reached = r.reached; grows = (first, r.grows); inside = (t, r.inside); none = r.none }
 ]
 
 -- from one node
@@ -194,10 +192,9 @@ off_tree_determines g is_node t ok tree = go (some_number g.nodes is_node (let s
 pub reached_nodes : (g : Graph) (is_node : NodeSet) (w : ℕ → ℕ) (es : List ℕ) (s t : NodeSet) → HasEveryEnd g is_node → Grows g w s es t →
     ((v : ℕ) → s v ≡ true → is_node v ≡ true) → (v : ℕ) → t v ≡ true → is_node v ≡ true
 reached_nodes g is_node w [] s t ends h a v m = a v (ap (λ (u : NodeSet). u v) (sym h) ∙ m)
-reached_nodes g is_node w (e ∷ es) s t ends h a v m = reached_nodes g is_node w es (and_also s (far_end g s e)) t ends h.1 more v m
-  where
-    more : (v : ℕ) → and_also s (far_end g s e) v ≡ true → is_node v ≡ true
-    more v m = let f = a v in let k = far_node g is_node s e ends h.0.inside in grind (arith, f, k)
+reached_nodes g is_node w (e ∷ es) s t ends h a v m =
+    let k = far_node g is_node s e ends h.0.inside in
+    reached_nodes g is_node w es (and_also s (far_end g s e)) t ends h.1 (λ u o. let f = a u in grind (arith, f, k)) v m
 
 -- such a tree has every node
 connected_all : (g : Graph) (is_node : NodeSet) (w : ℕ → ℕ) (r : ℕ) (es : List ℕ) (t : NodeSet) → r < g.nodes → IsConnected g is_node r → Grows g w (only r) es t → IsWhole g t →
@@ -211,10 +208,9 @@ connected_ends g is_node w r es t ok lr c h whole e l =
 
 pub connected_spans : (g : Graph) (is_node : NodeSet) (w : ℕ → ℕ) (r : ℕ) (es : List ℕ) (t : NodeSet) → IsGraph g → r < g.nodes → IsConnected g is_node r → Grows g w (only r) es t → IsWhole g t → IsSpanningTree g is_node (on es)
 connected_spans g is_node w r es t ok lr c h whole =
-    grown_spans g is_node w r es t ok lr h (λ v l. let f = inside v in let k = connected_all g is_node w r es t lr c h whole v l in grind (arith, f, k))
-  where
-    inside : (v : ℕ) → t v ≡ true → is_node v ≡ true
-    inside = reached_nodes g is_node w es (only r) t c.ends h (λ v m. ap is_node (eqb-true v r m) ∙ c.root)
+    let inside = reached_nodes g is_node w es (only r) t c.ends h (λ v m. ap is_node (eqb-true v r m) ∙ c.root) in
+    let all = connected_all g is_node w r es t lr c h whole in
+    grown_spans g is_node w r es t ok lr h (λ v l. let f = inside v in let k = all v l in grind (arith, f, k))
 
 -- sets that have the same edges
 pub spanning_alike : (g : Graph) (is_node : NodeSet) (s t : EdgeSet) → ((e : ℕ) → e < g.edges → s e ≡ t e) → IsSpanningTree g is_node s → IsSpanningTree g is_node t

@@ -1,4 +1,4 @@
-//! Tests of the crates of the graph and of flows: what no clause says, and each call once where it may want
+//! Tests of the crates of the graph, of flows and of edits: what no clause says, and each call once where it may want
 //! memory. They stand here together, since a crate with tests is proved twice.
 #![tactic(auto)]
 
@@ -7,15 +7,21 @@ mod blocks_tests;
 #[cfg(test)]
 mod edges_tests;
 #[cfg(test)]
+mod edits_tests;
+#[cfg(test)]
 mod flows_tests;
 #[cfg(test)]
 mod liveness_tests;
+#[cfg(test)]
+mod pieces_tests;
 #[cfg(test)]
 mod profile_tests;
 #[cfg(test)]
 mod programs;
 #[cfg(test)]
 mod switches_tests;
+#[cfg(test)]
+mod texts_tests;
 #[cfg(test)]
 mod tools_tests;
 #[cfg(test)]

@@ -1,11 +1,11 @@
 -- A word in its Mark at the head of a piece, and the images of plain words: they are one step each.
 use Rattle.image_code.proofs.Common.{◌≡◌, ◌≢◌, ℕ, ◌+◌, Bool, Option, Some, None, List, [], ◌∷◌, refl, ap, sym, subst, ◌∙◌, arith, range_at, Instr, decode_of, code_of, AllApart, Ending, State, act, step_of, on_word, puts_on_word, run_puts, judged_by, in_pages, pages_of, live_puts, goes_act, Point, point_of, node_after, count_stores, moved, hopped, step_is, no_stores, leads_one, page_word, Notes, outside_refl, Exit, Says, count_one, ends_stores, IsWatched, in_first_word, is_spill}
-use Rattle.two_runs.proofs.JudgedAlike.{judged_alike}
+use Rattle.two_runs.proofs.Stays.{stays_act}
+use Rattle.two_runs.proofs.Twins.{judged_alike}
 use Rattle.code_runs.proofs.Points.{acts_anywhere}
 use Rattle.image_code.specs.Simulates.{at_point, does_at, gone_at, graph_in, word_of, edit_in}
 use Rattle.image_code.proofs.Points.{ReachesNext, StepsFrom, entered_at, Visit}
 use Rattle.image_code.proofs.PointShapes.{next_entry, IsMarkedWord, IsPlain, word_ahead}
-use Rattle.image_code.proofs.Ended.{stops_act}
 use Rattle.image_code.proofs.Sparing.{uncounted}
 use Rattle.image_code.proofs.Cells.{fetch_is, images_stay, same_stored, IsFit, cells_stay, own_stays}
 use Rattle.image_code.proofs.Routes.{Tail, tail}
@@ -17,7 +17,7 @@ use Rattle.image_code.proofs.EntersBy.{Past, ends_by, enters_by, followed_same}
 pub judged_moved : (notes : Notes) (x : Point) (t : State) (instr : Instr)
     → AllApart (pages_of notes) (judged_by (at_point x t) instr) → AllApart (pages_of notes) (judged_by t instr)
 judged_moved notes x t instr apart =
-    judged_alike notes instr (at_point x t) t (assumption (outside_refl (pages_of notes) t.memory)) apart
+    judged_alike (pages_of notes) (at_point x t) t (assumption (outside_refl (pages_of notes) t.memory)) instr apart
 
 -- ---- words that are no transfers
 
@@ -66,7 +66,7 @@ module _ (visit : Visit) (edges : List ℕ) (exit : Exit) (c : IsMarkedWord visi
       → ReachesNext site (gone_at g node x v) node x t v
   steps next apart (Some d) over onward watched =
       let stopped : a.ending ≡ Some d = ap (λ (z : State). z.ending) same ∙ over in
-      let stays = stops_act t (decode_of c.word) c.straight here.live d stopped in
+      let stays = stays_act t here.live (decode_of c.word) (λ none. absurd (cc (stopped, none))) in
       let none : (counted : ℕ → Bool) → count_stores counted t 1 ≡ 0 =
       λ counted. count_one counted t ∙ ends_stores counted t d (ap (λ (z : State). z.ending) one ∙ stopped) in
       ends_by visit v a 0 (record {

@@ -241,8 +241,8 @@ simulate site c = record {
   visits = λ node x t matches clear here.
       let at = there (record { site = site; node = node; x = x; t = t; here = here }) (c.visits node x matches clear) in
       (here.live, at.0, at.1);
-  steps = λ node x t matches clear here apart on chooses.
+  steps = λ node x t matches clear here apart chooses.
       next_steps site c.opens c.enters node x t matches.0
       (by (record { site = site; node = node; x = x; t = t; here = here }) apart
-      (c.cases node x t matches clear here on chooses));
+      (c.cases node x t matches clear here chooses));
 }

@@ -1,5 +1,5 @@
 -- The pieces that are made are images.
-use Rattle.image_code.proofs.Common.{◌≡◌, false≢true, ℕ, Bool, true, false, Option, Some, None, refl, ap, sym, ◌∙◌, slice_index, word_at, Op2, Instr, decode_of, Slot, NoSlot, State, is_transfer, blocks_of, Node, Block, jumps_in, has_cases, Point, MatchesBy, block, Chooses, MatchesIn, does_at, point_of, graph_in, PiecesMakeImages, IsOffPages, ne_eqb, eq-eqb, suc, List, [], subst, inl, inr, slice_get, Open, save_load_address, words_of, Item, items_in, cases_eq, cases_Bool, bare, case_table, first_operand, load_of, second_operand, save_by, CaseTable, IsAtWord, block_of}
+use Rattle.image_code.proofs.Common.{◌≡◌, false≢true, ℕ, Bool, true, false, Option, Some, None, refl, ap, sym, ◌∙◌, slice_index, word_at, Op2, Instr, decode_of, Slot, NoSlot, State, is_transfer, blocks_of, Node, Block, jumps_in, has_cases, Point, MatchesBy, block, Chooses, MatchesIn, does_at, graph_in, PiecesMakeImages, IsOffPages, ne_eqb, eq-eqb, suc, List, [], subst, inl, inr, slice_get, Open, save_load_address, words_of, Item, items_in, cases_eq, cases_Bool, bare, case_table, first_operand, load_of, second_operand, save_by, CaseTable, IsAtWord, block_of}
 use Rattle.v8_decode.specs.declared.Instr.TheVariants as i
 use Rattle.cfg_blocks.specs.Values.{instr_at}
 use Rattle.image_code.specs.Labels.{Image, Save, enter_number, image_number, number_of}
@@ -124,9 +124,8 @@ module _ (edit : PlacedEdit) where
   open edit use {g}
 
   case : (node : Node) (x : Point) (t : State) → MatchesIn g node x → IsOffPages g x
-      → AtVisitIn (site edit) node x t → ((does_at g x t).ending ≡ None → IsOffPages g (point_of (does_at g x t)))
-      → Chooses g node x t (does_at g x t) → IsCase (site edit) node x t
-  case node x t m open_there here _ chooses = by x.slot refl m.0 (word_at g.text x.pc) refl
+      → AtVisitIn (site edit) node x t → Chooses g node x t (does_at g x t) → IsCase (site edit) node x t
+  case node x t m open_there here chooses = by x.slot refl m.0 (word_at g.text x.pc) refl
     where
       by : (s : Slot) → x.slot ≡ s → MatchesBy g.text (graph_in g) node x s → (o : Option ℕ) → word_at g.text x.pc ≡ o
           → IsCase (site edit) node x t

@@ -267,7 +267,6 @@ pub data IsVisited (site : Site) (node : Node) (x : Point) : Type 0 where
 pub record IsImaged (site : Site) : Type 0 where
   pub visits : (node : Node) (x : Point) → MatchesIn site.g node x → IsOffPages site.g x → IsVisited site node x
   pub cases : (node : Node) (x : Point) (t : State) → MatchesIn site.g node x → IsOffPages site.g x → AtVisitIn site node x t
-      → ((does_at site.g x t).ending ≡ None → IsOffPages site.g (point_of (does_at site.g x t)))
       → Chooses site.g node x t (does_at site.g x t) → IsCase site node x t
   -- control enters each where it is visited, but for the loads of open switches
   pub opens : AreCaseTables site.g

@@ -182,14 +182,13 @@ pub record Steps (g : EditSetup) (AtVisit : Node → Point → State → Type 0)
   pub on : StepsOn g AtVisit (NoLongForms × IsNoLoad g v) 64 edges node p t v
   pub keeps : KeepsAddress g edges node p t v on.after
 
--- What the pieces promise. `AtVisit` says that a machine is at the visit of a point at a node of the walk. `Inside` says
--- to which points the pieces lead: those at words of the text at first, and then all.
+-- What the pieces promise. `AtVisit` says that a machine is at the visit of a point at a node of the walk, or comes to one
+-- that has none. `Inside` says from which points they lead on: those outside the pages, wherever that leads.
 pub record Simulates (g : EditSetup) (Inside : Point → Type 0) (AtVisit : Node → Point → State → Type 0)
     (NoLongForms : Type 0) : Type 0 where
   pub visits : (node : Node) (p : Point) (t : State) → MatchesIn g node p → Inside p → AtVisit node p t
       → (t.ending ≡ None) × (visit_of g.notes t ≡ Some p.pc) × (node_at g.notes t.pc ≡ Some (number_in g node))
   pub steps : (node : Node) (p : Point) (t : State) → MatchesIn g node p → Inside p → AtVisit node p t
       → AllApart (pages_of g.notes) (judged_in (at_point p t) (instr_of (word_of g.text p.pc)))
-      → ((does_at g p t).ending ≡ None → Inside (point_of (does_at g p t)))
       → Chooses g node p t (does_at g p t)
       → Steps g AtVisit NoLongForms (gone_at g node p (does_at g p t)) node p t (does_at g p t)

@@ -5,6 +5,7 @@ use Rattle.layout.specs.declared.items.Item.TheVariants as it
 use Rattle.layout.specs.declared.entries.Entry.TheVariants as en
 use Rattle.layout.proofs.Laying.{exits_lead, follows, item_is, whole_is}
 use Rattle.layout.proofs.Listed.{items_at, from_append, split_at, start_at, before_absent}
+use Rattle.layout.proofs.Offsets.{offset_none}
 use Rattle.layout.proofs.Widening.{offset_more, rises}
 use Rattle.layout.proofs.Emitted.{near_enough}
 use Rattle.layout.proofs.Standing.{code_length, get_rest, has_code, item_stands, GoesTo, IsNextAt, IsNearTo}
@@ -48,6 +49,13 @@ no_jump (Some (it.Jump k)) e = absurd (false≢true (sym e))
 no_jump _ e = refl
 
 -- ---- where entries stand
+
+-- an item's entry, and the one behind it
+abbrev pub entry_no : List (List Item) → ℕ → ℕ → ℕ
+entry_no pieces k n = start_of (entries_of pieces) k + 1 + n
+
+abbrev pub next_entry : List (List Item) → ℕ → ℕ → Option Entry
+next_entry pieces k n = slice_get (entries_of pieces) (suc (entry_no pieces k n))
 
 module _ (pieces : List (List Item)) (leads : AllLead pieces) where
   whole : IsWhole pieces (compact_order pieces)
@@ -159,6 +167,32 @@ module _ (pieces : List (List Item)) (leads : AllLead pieces) where
       first [] f g = absurd (false≢true g)
       first (j ∷ js) f g = ap (start_of (entries_of pieces)) (eqb-true to.0 j g) ∙ next_start k j s js f
 
+  pub leads_to : (k n : ℕ) (x : Item) → item_at pieces k n ≡ Some x → LeadsBelow (length pieces) (Some x)
+  leads_to k n x e = rw e at (leads k n)
+
+  module _ (long : Forms) where
+    -- a start takes no word
+    pub start_still : (k : ℕ) → k < length pieces
+        → offset (entries_of pieces) long (entry_no pieces k 0)
+        ≡ offset (entries_of pieces) long (start_of (entries_of pieces) k)
+    start_still k l =
+        let s = start_of (entries_of pieces) k in
+        let e : entry_no pieces k 0 ≡ suc (start_of (entries_of pieces) k) = omega arith in
+        let w : width (long s) (slice_get (entries_of pieces) s) (slice_get (entries_of pieces) (suc s)) ≡ 0
+        = ap (λ (x : Option Entry). width (long s) x (slice_get (entries_of pieces) (suc s))) (start_entry k l) in
+        ap (offset (entries_of pieces) long) e ∙ omega (arith, offset_more (entries_of pieces) long s, w)
+
+    -- an item takes its width
+    pub step : (k n : ℕ) (x : Item) → item_at pieces k n ≡ Some x
+        → offset (entries_of pieces) long (entry_no pieces k (suc n)) ≡ offset (entries_of pieces) long (entry_no pieces k n)
+        + width (long (entry_no pieces k n)) (Some (en.Item x)) (next_entry pieces k n)
+    step k n x e =
+        let next : entry_no pieces k (suc n) ≡ suc (entry_no pieces k n) = omega arith in
+        let m = entry_no pieces k n in
+        let own = ap (λ (z : Option Entry). width (long m) z (next_entry pieces k n)) (entry_is k n x e) in
+        let more = offset_more (entries_of pieces) long m in
+        omega (arith, ap (offset (entries_of pieces) long) next, more, own)
+
   fall_start : (k : ℕ) → suc k < length pieces → exit_at pieces k ≡ None
       → start_of (entries_of pieces) (suc k) ≡ start_of (entries_of pieces) k + 1 + length (items_at pieces k)
   fall_start k l none = go s.after refl next
@@ -189,10 +223,6 @@ module _ (pieces : List (List Item)) (leads : AllLead pieces) where
 
 -- ---- the layout
 
-first_at : (entries : List Entry) (long : Forms) → offset entries long 0 ≡ 0
-unfolding offset
-first_at entries long = refl
-
 get_map : (f : ℕ → ℕ) (starts : List ℕ) (k : ℕ) → k < length starts
     → slice_index (map (λ (a : Addr). a.0) (map (λ n. record { 0 = f n }) starts)) k ≡ f (slice_index starts k)
 get_map f [] k l = absurd (omega arith)
@@ -211,15 +241,9 @@ module _ (pieces : List (List Item)) (leads : AllLead pieces) (marked : AllMarke
   abbrev at : ℕ → ℕ
   at n = base + 4 * offset (entries_of pieces) long n
 
-  -- an item's entry, the one behind it, and the words before it
-  abbrev entry_no : ℕ → ℕ → ℕ
-  entry_no k n = start_of (entries_of pieces) k + 1 + n
-
-  abbrev next_entry : ℕ → ℕ → Option Entry
-  next_entry k n = slice_get (entries_of pieces) (suc (entry_no k n))
-
+  -- the words before an item
   abbrev words_to : ℕ → ℕ → ℕ
-  words_to k n = offset (entries_of pieces) long (entry_no k n)
+  words_to k n = offset (entries_of pieces) long (entry_no pieces k n)
 
   abbrev place : ℕ → ℕ → ℕ
   place k n = base + 4 * words_to k n
@@ -246,18 +270,8 @@ module _ (pieces : List (List Item)) (leads : AllLead pieces) (marked : AllMarke
       let m : k < length starts = omega (arith, h.count, l) in
       cc (at_is, get_map (λ n. base + 4 * n) starts k m, h.offsets.each k m)
 
-  -- a start takes no word
-  start_still : (k : ℕ) → k < length pieces → words_to k 0 ≡ offset entries long (start_of entries k)
-  start_still k l =
-      let s = start_of entries k in
-      let e : start_of entries k + 1 + 0 ≡ suc (start_of entries k) = omega arith in
-      let m = offset_more entries long s in
-      let w : width (long s) (slice_get entries s) (slice_get entries (suc s)) ≡ 0
-      = ap (λ (x : Option Entry). width (long s) x (slice_get entries (suc s))) (start_entry pieces leads k l) in
-      ap (offset entries long) e ∙ omega (arith, m, w)
-
   starts_are : (k : ℕ) → k < length pieces → slice_index placed.at k ≡ place k 0
-  starts_are k l = let e = start_still k l in let v = start_value k l in omega (arith, e, v)
+  starts_are k l = let e = start_still pieces leads long k l in let v = start_value k l in omega (arith, e, v)
 
   offset_low : (n : ℕ) → n ≤ length (entries_of pieces) → base + 4 * offset (entries_of pieces) long n ≤ 2 ^ 31
   offset_low n l = let r = rises entries long n (length (entries_of pieces)) l in omega (arith, r, low)
@@ -280,72 +294,60 @@ module _ (pieces : List (List Item)) (leads : AllLead pieces) (marked : AllMarke
       let r = rises entries long (start_of entries k + 1 + n) (length (entries_of pieces)) (omega (arith, i, z, m)) in
       record { begins = omega arith; ends = omega (arith, r, size); aligned = omega (arith, aligned) }
 
-  next_is : (k n : ℕ) → start_of (entries_of pieces) k + 1 + suc n ≡ suc (start_of (entries_of pieces) k + 1 + n)
-  next_is k n = omega arith
-
   -- the words before the piece to which an item leads
   abbrev goal_words : ℕ → ℕ → ℕ
-  goal_words k n = or_zero (target_offset (entries_of pieces) long (start_of (entries_of pieces) k + 1 + n))
+  goal_words k n = or_zero (target_offset (entries_of pieces) long (entry_no pieces k n))
 
   goal_is : (k n : ℕ) (x : Item) (o : Option ℕ) → item_at pieces k n ≡ Some x → target (Some (en.Item x)) ≡ o
       → goal_words k n ≡ or_zero (option_map (offset entries long) (option_map (start_of entries) o))
   goal_is k n x o e t = cc (entry_is pieces leads k n x e, t)
 
-  leads_to : (k n : ℕ) (x : Item) → item_at pieces k n ≡ Some x → LeadsBelow (length pieces) (Some x)
-  leads_to k n x e = rw e at (leads k n)
-
   goes : (k n : ℕ) (x : Item) → item_at pieces k n ≡ Some x → GoesTo base placed x (goal_words k n)
   goes k n (it.Jump to) e =
-      omega (arith, goal_is k n (it.Jump to) (Some to.0) e refl, start_value to.0 (leads_to k n (it.Jump to) e))
+      omega (arith, goal_is k n (it.Jump to) (Some to.0) e refl, start_value to.0 (leads_to pieces leads k n (it.Jump to) e))
   goes k n (it.Branch c to) e =
-      let there = start_value to.0 (leads_to k n (it.Branch c to) e) in
+      let there = start_value to.0 (leads_to pieces leads k n (it.Branch c to) e) in
       omega (arith, goal_is k n (it.Branch c to) (Some to.0) e refl, there)
   goes k n _ e = tt
 
   goal_low : (k n : ℕ) (x : Item) → item_at pieces k n ≡ Some x → base + 4 * goal_words k n ≤ 2 ^ 31
   goal_low k n (it.Jump to) e =
-      let i = piece_inside pieces leads to.0 (leads_to k n (it.Jump to) e) in
+      let i = piece_inside pieces leads to.0 (leads_to pieces leads k n (it.Jump to) e) in
       let below = offset_low (start_of entries to.0) (omega (arith, i)) in
       omega (arith, goal_is k n (it.Jump to) (Some to.0) e refl, below)
   goal_low k n (it.Branch c to) e =
-      let i = piece_inside pieces leads to.0 (leads_to k n (it.Branch c to) e) in
+      let i = piece_inside pieces leads to.0 (leads_to pieces leads k n (it.Branch c to) e) in
       let below = offset_low (start_of entries to.0) (omega (arith, i)) in
       omega (arith, goal_is k n (it.Branch c to) (Some to.0) e refl, below)
   goal_low k n x e = let g = goal_is k n x None e refl in omega (arith, g, low)
 
-  step : (k n : ℕ) (x : Item) → item_at pieces k n ≡ Some x
-      → words_to k (suc n) ≡ words_to k n + width (long (entry_no k n)) (Some (en.Item x)) (next_entry k n)
-  step k n x e =
-      let c = ap (λ (z : Option Entry). width (long (entry_no k n)) z (next_entry k n)) (entry_is pieces leads k n x e) in
-      omega (arith, ap (offset entries long) (next_is k n), offset_more entries long (entry_no k n), c)
-
   -- a Jump takes no word where its target starts right behind it
   here : (k n : ℕ) (to : PieceNo) → item_at pieces k n ≡ Some (it.Jump to)
-      → leads_next to (next_entry k n) ≡ true → words_to k n ≡ goal_words k n
+      → leads_next to (next_entry pieces k n) ≡ true → words_to k n ≡ goal_words k n
   here k n to e b =
-      let c = ap (λ (z : Option Entry). width (long (entry_no k n)) z (next_entry k n))
+      let c = ap (λ (z : Option Entry). width (long (entry_no pieces k n)) z (next_entry pieces k n))
       (entry_is pieces leads k n (it.Jump to) e) in
-      let w : width (long (entry_no k n)) (Some (en.Item (it.Jump to))) (next_entry k n) ≡ 0
-      = ap (λ (z : Bool). if z then 0 else (if long (entry_no k n) then 4 else 1)) b in
+      let w : width (long (entry_no pieces k n)) (Some (en.Item (it.Jump to))) (next_entry pieces k n) ≡ 0
+      = ap (λ (z : Bool). if z then 0 else (if long (entry_no pieces k n) then 4 else 1)) b in
       let same = ap (offset entries long) (jump_next pieces leads k n (it.Jump to) to e b) in
-      omega (arith, same, offset_more entries long (entry_no k n), c, w, goal_is k n (it.Jump to) (Some to.0) e refl)
+      omega (arith, same, offset_more entries long (entry_no pieces k n), c, w, goal_is k n (it.Jump to) (Some to.0) e refl)
 
   nexts : (k n : ℕ) (x : Item) → item_at pieces k n ≡ Some x
-      → IsNextAt base placed x (next_entry k n) (words_to k n) (goal_words k n)
+      → IsNextAt base placed x (next_entry pieces k n) (words_to k n) (goal_words k n)
   nexts k n (it.Jump to) e = here k n to e
   nexts k n _ e = tt
 
-  near : (k n : ℕ) (to : ℕ) → target (slice_get (entries_of pieces) (entry_no k n)) ≡ Some to
-      → long (entry_no k n) ≡ false
+  near : (k n : ℕ) (to : ℕ) → target (slice_get (entries_of pieces) (entry_no pieces k n)) ≡ Some to
+      → long (entry_no pieces k n) ≡ false
       → far (words_to k n) (goal_words k n) ≡ false
   near k n to t short =
-      let o : target_offset entries long (entry_no k n) ≡ Some (offset entries long (start_of entries to))
+      let o : target_offset entries long (entry_no pieces k n) ≡ Some (offset entries long (start_of entries to))
       = ap (λ (o : Option ℕ). option_map (offset entries long) (option_map (start_of entries) o)) t in
-      let f = near_enough entries long (entry_no k n) h.widened.none_left short in
+      let f = near_enough entries long (entry_no pieces k n) h.widened.none_left short in
       cc (o, f)
 
   nears : (k n : ℕ) (x : Item) → item_at pieces k n ≡ Some x
-      → IsNearTo base placed x (long (entry_no k n)) (words_to k n) (goal_words k n)
+      → IsNearTo base placed x (long (entry_no pieces k n)) (words_to k n) (goal_words k n)
   nears k n (it.Jump to) e = near k n to.0 (ap target (entry_is pieces leads k n (it.Jump to) e))
   nears k n (it.Branch c to) e = near k n to.0 (ap target (entry_is pieces leads k n (it.Branch c to) e))
   nears k n _ e = tt
@@ -354,14 +356,14 @@ module _ (pieces : List (List Item)) (leads : AllLead pieces) (marked : AllMarke
   items k n x e =
       let i = piece_inside pieces leads k (piece_at pieces k n x e).0 in
       let g = slice_get_within (items_at pieces k) n x (sym (item_is pieces k n) ∙ e) in
-      let l : entry_no k n < length (entries_of pieces) = omega (arith, i, g) in
-      let t = step k n x e in
-      item_stands base placed x (next_entry k n) (long (entry_no k n)) (words_to k n) (goal_words k n)
-      (place k n) (place k (suc n)) refl (omega (arith, t)) (offset_low (entry_no k n) (omega (arith, l))) (goal_low k
-      n x e) (cc (entry_is pieces leads k n x e, h.emitted.conditions (entry_no k n) l))
+      let l : entry_no pieces k n < length (entries_of pieces) = omega (arith, i, g) in
+      let t = step pieces leads long k n x e in
+      item_stands base placed x (next_entry pieces k n) (long (entry_no pieces k n)) (words_to k n) (goal_words k n)
+      (place k n) (place k (suc n)) refl (omega (arith, t)) (offset_low (entry_no pieces k n) (omega (arith, l))) (goal_low k
+      n x e) (cc (entry_is pieces leads k n x e, h.emitted.conditions (entry_no pieces k n) l))
       (goes k n x e) (nexts k n x e) (nears k n x e)
       (λ j w f. ap (λ (ws : List ℕ). slice_get ws (words_to k n + j)) h.emitted.is
-      ∙ has_code base entries long (length (entries_of pieces)) (entry_no k n) l j w
+      ∙ has_code base entries long (length (entries_of pieces)) (entry_no pieces k n) l j w
       (cc (entry_is pieces leads k n x e, f)))
 
   falls : (k : ℕ) → suc k < length pieces → is_jump (item_at pieces k (size_of pieces k - 1)) ≡ false
@@ -372,12 +374,14 @@ module _ (pieces : List (List Item)) (leads : AllLead pieces) (marked : AllMarke
       = ap jump_to (cc (item_is pieces k (length (items_at pieces k) - 1), z))
       ∙ no_jump (item_at pieces k (size_of pieces k - 1)) j in
       let same = ap (λ (m : ℕ). words_to k m) z in
-      omega (arith, ap (offset entries long) (fall_start pieces leads k l none), start_still (suc k) l, same)
+      let start = start_still pieces leads long (suc k) l in
+      omega (arith, ap (offset entries long) (fall_start pieces leads k l none), start, same)
 
   -- Marks take no room
   mark_still : (k n : ℕ) (x : Item) → item_at pieces k n ≡ Some x
       → ((long : Bool) (next : Option Entry) → width long (Some (en.Item x)) next ≡ 0) → place k (suc n) ≡ place k n
-  mark_still k n x e w = omega (arith, step k n x e, w (long (entry_no k n)) (next_entry k n))
+  mark_still k n x e w =
+      omega (arith, step pieces leads long k n x e, w (long (entry_no pieces k n)) (next_entry pieces k n))
 
   still_from : (k : ℕ) (xs : List Item) (i : ℕ) → AreFrom pieces k xs i → AreStill (place k) i xs
   still_from k [] i are = tt
@@ -414,7 +418,7 @@ module _ (pieces : List (List Item)) (leads : AllLead pieces) (marked : AllMarke
 
   ascend : Ascend base (base + 4 * length placed.code) placed.ranges
   ascend =
-      rw (ranges_are, end_is) (ascend_from (at 0) _ base _ (omega (arith, first_at entries long))
+      rw (ranges_are, end_is) (ascend_from (at 0) _ base _ (omega (arith, offset_none entries long))
       (order_ascends at up pieces (marked_at pieces marked) (compact_order pieces) 0 (length (entries_of pieces)) (omega arith)))
 
   order_made : (ks before : List ℕ) (c : ℕ) → compact_order pieces ≡ before ++ ks

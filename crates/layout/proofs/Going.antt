@@ -1,5 +1,5 @@
 -- What placed items do.
-use Rattle.layout.proofs.Common.{◌≡◌, ℕ, zero, suc, ◌+◌, ◌-◌, ◌%◌, ◌^◌, ◌<◌, ◌≤◌, inl, inr, Bool, true, false, not, Some, List, [], ◌∷◌, length, refl, ap, sym, ◌∙◌, arith, if◌then◌else◌, ◌==◌, slice_index, ℤ, pos, slice_get_within, Instr, store_word, Item, Placement, IsLaid, IsWordAt, SaysFrom, JumpStands, jump_nothing, jump_short, jump_long, BranchStands, branch_short, branch_long, Reaches, nop, opposite, item_at, size_of, long_jump, IsFirstWord}
+use Rattle.layout.proofs.Common.{◌≡◌, ℕ, suc, ◌+◌, ◌*◌, ◌-◌, ◌%◌, ◌^◌, ◌<◌, ◌≤◌, inl, inr, Bool, true, false, not, Some, List, [], ◌∷◌, length, refl, ap, sym, ◌∙◌, arith, if◌then◌else◌, ◌==◌, slice_index, ℤ, pos, slice_get_within, Instr, store_word, Item, Placement, IsLaid, IsWordAt, SaysFrom, JumpStands, jump_nothing, jump_short, jump_long, BranchStands, branch_short, branch_long, Reaches, nop, opposite, item_at, size_of, long_jump, IsFirstWord}
 use Rattle.v8_decode.specs.declared.Instr.TheVariants as i
 use Rattle.v8_alu.specs.declared.Codes.{Codes}
 use Rattle.v8_alu.specs.Numbers.{wrapped}
@@ -38,70 +38,13 @@ says_stand base code m h [] a says = tt
 says_stand base code m h (x ∷ xs) a says =
     (record { word = says.0.0; fetched = word_is base a says.0.0 code m h says.0.1; decodes = says.0.2 }, says_stand base code m h xs (a + 4) says.1)
 
--- ---- a Jump
+-- ---- items
 
 pub stays : (s : State) (to : ℕ) → s.pc ≡ to → s.npc ≡ s.pc + 4 → s.slot ≡ NoSlot → to + 4 < 2 ^ 32
     → hopped s to s.memory ≡ s
 stays s to e f n low =
     let g : wrapped (to + 4) ≡ s.npc = omega arith in
     rw (g, ← e, ← n) refl
-
-always_acts : (s : State) (to : ℕ) (disp22 : ℤ) → s.slot ≡ NoSlot → Reaches s.pc to disp22
-    → act s (i.Branch 8 true disp22) ≡ hopped s to s.memory
-unfolding act branch_step holds_of
-always_acts s to disp22 n e = cc (n, e)
-
-jump_goes : (base : ℕ) (code : List ℕ) (to a b : ℕ) (s : State) → JumpStands base code to a b → CanRun base code s
-    → s.pc ≡ a → b ≤ 2 ^ 31 → a ≤ b → to ≤ 2 ^ 31 → to % 4 ≡ 0 → Goes s to b 0 4 1
-jump_goes base code to a b s (jump_nothing e f) w is low order low' aligned =
-    record {
-      count = 0;
-      memory = s.memory;
-      some = omega arith;
-      few = omega arith;
-      inside = omega arith;
-      hops = record {
-        path = rw (stays s to (is ∙ e) w.ready.npc w.slot (omega arith)) (leads_none _ s);
-        silent = silent_none s;
-        stores = stores_none IsFirstWord s.memory;
-      };
-      stored = λ counted free. refl;
-    }
-jump_goes base code to a b s (jump_short disp22 f r say) w is low order low' aligned =
-    let here : Says (code_of s.memory) s.pc (i.Branch 8 true disp22) = says_at (code_of s.memory) s.pc a _
-    (sym is) (says_stand base code s.memory w.code (i.Branch 8 true disp22 ∷ []) a say).0 in
-    let one : step_of s ≡ hopped s to s.memory = says_step s (i.Branch 8 true disp22) w.ready.live here
-    ∙ always_acts s to disp22 w.slot (rw is r) in
-    record {
-      count = 1;
-      memory = s.memory;
-      some = omega arith;
-      few = omega arith;
-      inside = omega arith;
-      hops = record {
-        path = leads_one _ s _ one;
-        silent = silent_one s (says_puts s (i.Branch 8 true disp22) (λ cond q x e. cc) here);
-        stores = stores_none IsFirstWord s.memory;
-      };
-      stored = λ counted free.
-          no_stores counted s (i.Branch 8 true disp22) w.ready.live here refl;
-    }
-jump_goes base code to a b s (jump_long f say) w is low order low' aligned =
-    let words = says_stand base code s.memory w.code (long_jump to) a say in
-    record {
-      count = 4;
-      memory = store_word s.memory (page_word 0) (register_of s 1);
-      some = omega arith;
-      few = omega arith;
-      inside = omega arith;
-      hops = long_jumps_hop to s w.valid w.ready (omega arith) w.page (rw is words) (omega arith) aligned;
-      stored = λ counted free. elim free [
-        | inl other ↦ long_jumps_store to s w.valid w.ready (omega arith) w.page
-            (rw is words) (omega arith) aligned counted
-            other
-        | inr near ↦ absurd (omega (arith, f, is, near))
-      ];
-    }
 
 pub piece_size : (pieces : List (List Item)) (k n : ℕ) (x : Item) → item_at pieces k n ≡ Some x → k < length pieces
 piece_size pieces k n x e = grind (arith, slice_get_within)
@@ -117,20 +60,6 @@ item_low pieces base p place h k n x e =
     let w = (h.within k (suc n) (piece_size pieces k n x e) (item_size pieces k n x e)).ends in
     omega arith
 
-pub jumps_hop : JumpsHop
-jumps_hop pieces base p place h k n to e s w is =
-    let stands : JumpStands base p.code (slice_index p.at to.0) (place k n) (place k (suc n)) = h.items k n
-    (it.Jump to) e in
-    let a = h.aligned to.0 in
-    jump_goes base p.code (slice_index p.at to.0) (place k n) (place k (suc n)) s stands w is
-    (item_low pieces base p place h k n (it.Jump to) e)
-    (order base p.code (slice_index p.at to.0) (place k n) (place k (suc n)) stands) a.1 a.0
-  where
-    order : (base : ℕ) (code : List ℕ) (to a b : ℕ) → JumpStands base code to a b → a ≤ b
-    order base code to a b (jump_nothing e f) = omega arith
-    order base code to a b (jump_short d f r s) = omega arith
-    order base code to a b (jump_long f s) = omega arith
-
 pub words_stand : WordsStand
 words_stand pieces base p place h k n word e s w is =
     let stands : (place k (suc n) ≡ place k n + 4)
@@ -139,22 +68,11 @@ words_stand pieces base p place h k n word e s w is =
 
 -- ---- branches
 
-twice : (b : Bool) → b ≡ not (not b)
-twice true = refl
-twice false = refl
-
 opposed : (c : ℕ) (k : Codes) → c < 16 → holds_of (opposite c) k ≡ not (holds_of c k)
 unfolding holds_of
-opposed (suc (suc (suc (suc (suc (suc (suc (suc (suc zero))))))))) k low = twice _
-opposed (suc (suc (suc (suc (suc (suc (suc (suc (suc (suc zero)))))))))) k low = twice _
-opposed (suc (suc (suc (suc (suc (suc (suc (suc (suc (suc (suc zero))))))))))) k low = twice _
-opposed (suc (suc (suc (suc (suc (suc (suc (suc (suc (suc (suc (suc zero)))))))))))) k low = twice _
-opposed (suc (suc (suc (suc (suc (suc (suc (suc (suc (suc (suc (suc (suc zero))))))))))))) k low = twice _
-opposed (suc (suc (suc (suc (suc (suc (suc (suc (suc (suc (suc (suc (suc (suc zero)))))))))))))) k low = twice _
-opposed (suc (suc (suc (suc (suc (suc (suc (suc (suc (suc (suc (suc (suc (suc (suc zero))))))))))))))) k low = twice _
 opposed (suc (suc (suc (suc (suc (suc (suc (suc (suc (suc (suc (suc (suc (suc (suc (suc n)))))))))))))))) k low = absurd
     (omega arith)
-opposed c k low = refl
+opposed c k low = grind arith
 
 -- a branch that isn't annulled
 pub taken_acts : (s : State) (c : ℕ) (disp22 : ℤ) (always : Bool) → s.slot ≡ NoSlot → holds_of c s.codes ≡ true
@@ -185,12 +103,17 @@ nop_acts s pc npc slot = refl
 abbrev HopsBare : ℕ → State → ℕ → Type 0
 HopsBare count s to = Hops s count IsFirstWord to s.memory × ((counted : ℕ → Bool) → count_stores counted s count ≡ 0)
 
--- one step or two
-record HopsSoon (s : State) (to : ℕ) : Type 0 where
-  count : ℕ
-  some : 1 ≤ count
-  few : count ≤ 2
-  bare : HopsBare count s to
+bare_goes : (s : State) (to b least most short count : ℕ) → HopsBare count s to → least ≤ count → count ≤ most
+    → s.pc + 4 * count ≤ b → Goes s to b least most short
+bare_goes s to b least most short count h some few inside = record {
+  count = count;
+  memory = s.memory;
+  some = some;
+  few = few;
+  inside = inside;
+  hops = h.0;
+  stored = λ counted free. h.1 counted;
+}
 
 module _ (s : State) (ready : IsReady s) (none : s.slot ≡ NoSlot) (low : s.pc < 2 ^ 32 - 64) where
   in_slot : (c : ℕ) (annul : Bool) (disp22 : ℤ) (to : ℕ) (slot : Slot)
@@ -231,47 +154,91 @@ module _ (s : State) (ready : IsReady s) (none : s.slot ≡ NoSlot) (low : s.pc 
       ∙ untaken_acts s c disp22 none e
       ∙ ap (λ z. record s { pc = s.npc; npc = z; slot = Untaken }) there)
 
-  no_slot : (c : ℕ) (disp22 : ℤ) (to : ℕ) → StandIn (code_of s.memory) s.pc (i.Branch c true disp22 ∷ nop ∷ [])
+  no_slot : (c : ℕ) (disp22 : ℤ) (to : ℕ) → Says (code_of s.memory) s.pc (i.Branch c true disp22)
       → step_of s ≡ hopped s to s.memory → HopsBare 1 s to
-  no_slot c disp22 to stand one =
+  no_slot c disp22 to here one =
       let hops : Hops s 1 IsFirstWord to s.memory = record {
         path = leads_one _ s _ one;
-        silent = silent_one s (says_puts s (i.Branch c true disp22) (λ cond q x e. cc) stand.0);
+        silent = silent_one s (says_puts s (i.Branch c true disp22) (λ cond q x e. cc) here);
         stores = stores_none IsFirstWord s.memory;
-      } in (hops, λ counted. no_stores counted s (i.Branch c true disp22) ready.live stand.0 refl)
+      } in (hops, λ counted. no_stores counted s (i.Branch c true disp22) ready.live here refl)
+
+  -- a branch that is always taken
+  always : (c : ℕ) (disp22 : ℤ) (to : ℕ) → Reaches s.pc to disp22
+      → Says (code_of s.memory) s.pc (i.Branch c true disp22) → holds_of c s.codes ≡ true → (c == 8) ≡ true
+      → HopsBare 1 s to
+  always c disp22 to r here e a =
+      no_slot c disp22 to here (says_step s (i.Branch c true disp22) ready.live here
+      ∙ annulled_acts s c disp22 true true none e a
+      ∙ ap (λ z. record s { pc = z; npc = wrapped (z + 4) }) r
+      ∙ ap (λ (z : Slot). record s { pc = to; npc = wrapped (to + 4); slot = z }) none)
 
   -- the branch leads past its nop where it isn't taken; where it is, the nop runs, unless it is always taken
-  annulled : (c : ℕ) (disp22 : ℤ) (to : ℕ) (flag always : Bool) → Reaches s.pc to disp22
+  annulled : (c : ℕ) (disp22 : ℤ) (to b : ℕ) (flag always_taken : Bool) → s.pc + 8 ≤ b → Reaches s.pc to disp22
       → StandIn (code_of s.memory) s.pc (i.Branch c true disp22 ∷ nop ∷ [])
-      → holds_of c s.codes ≡ flag → (c == 8) ≡ always → HopsSoon s (if flag then to else s.pc + 8)
-  annulled c disp22 to true true r stand e a = record {
-    count = 1;
-    some = omega arith;
-    few = omega arith;
-    bare = no_slot c disp22 to stand (says_step s (i.Branch c true disp22) ready.live stand.0
-        ∙ annulled_acts s c disp22 true true none e a
-        ∙ ap (λ z. record s { pc = z; npc = wrapped (z + 4) }) r
-        ∙ ap (λ (z : Slot). record s { pc = to; npc = wrapped (to + 4); slot = z }) none);
-  }
-  annulled c disp22 to true false r stand e a = record {
-    count = 2;
-    some = omega arith;
-    few = omega arith;
-    bare = in_slot c true disp22 to Taken stand (says_step s (i.Branch c true disp22) ready.live stand.0
-        ∙ annulled_acts s c disp22 true false none e a
-        ∙ ap (λ z. record s { pc = s.npc; npc = z; slot = Taken }) r);
-  }
-  annulled c disp22 to false always r stand e a =
-      record {
-        count = 1;
-        some = omega arith;
-        few = omega arith;
-        bare = no_slot c disp22 (s.pc + 8) stand (says_step s (i.Branch c true disp22) ready.live stand.0
-            ∙ annulled_acts s c disp22 false always none e a
-            ∙ ap (λ z. record s { pc = z; npc = wrapped (s.pc + 12) }) (omega arith)
-            ∙ ap (λ z. record s { pc = s.pc + 8; npc = wrapped z }) (omega arith)
-            ∙ ap (λ (z : Slot). record s { pc = s.pc + 8; npc = wrapped (s.pc + 8 + 4); slot = z }) none);
-      }
+      → holds_of c s.codes ≡ flag → (c == 8) ≡ always_taken → Goes s (if flag then to else s.pc + 8) b 1 6 2
+  annulled c disp22 to b true true room r stand e a =
+      bare_goes s to b 1 6 2 1 (always c disp22 to r stand.0 e a) (omega arith) (omega arith) (omega arith)
+  annulled c disp22 to b true false room r stand e a =
+      bare_goes s to b 1 6 2 2 (in_slot c true disp22 to Taken stand
+      (says_step s (i.Branch c true disp22) ready.live stand.0 ∙ annulled_acts s c disp22 true false none e a
+      ∙ ap (λ z. record s { pc = s.npc; npc = z; slot = Taken }) r)) (omega arith) (omega arith) (omega arith)
+  annulled c disp22 to b false always_taken room r stand e a =
+      bare_goes s (s.pc + 8) b 1 6 2 1 (no_slot c disp22 (s.pc + 8) stand.0
+      (says_step s (i.Branch c true disp22) ready.live stand.0
+      ∙ annulled_acts s c disp22 false always_taken none e a
+      ∙ ap (λ z. record s { pc = z; npc = wrapped (s.pc + 12) }) (omega arith)
+      ∙ ap (λ z. record s { pc = s.pc + 8; npc = wrapped z }) (omega arith)
+      ∙ ap (λ (z : Slot). record s { pc = s.pc + 8; npc = wrapped (s.pc + 8 + 4); slot = z }) none))
+      (omega arith) (omega arith) (omega arith)
+
+-- ---- where they go
+
+jump_goes : (base : ℕ) (code : List ℕ) (to a b : ℕ) (s : State) → JumpStands base code to a b → CanRun base code s
+    → s.pc ≡ a → b ≤ 2 ^ 31 → a ≤ b → to ≤ 2 ^ 31 → to % 4 ≡ 0 → Goes s to b 0 4 1
+unfolding holds_of
+jump_goes base code to a b s (jump_nothing e f) w is low order low' aligned =
+    let hops : Hops s 0 IsFirstWord to s.memory = record {
+      path = rw (stays s to (is ∙ e) w.ready.npc w.slot (omega arith)) (leads_none _ s);
+      silent = silent_none s;
+      stores = stores_none IsFirstWord s.memory;
+    } in
+    bare_goes s to b 0 4 1 0 (hops, λ counted. refl) (omega arith) (omega arith) (omega arith)
+jump_goes base code to a b s (jump_short disp22 f r say) w is low order low' aligned =
+    let words : StandIn (code_of s.memory) s.pc (i.Branch 8 true disp22 ∷ [])
+    = rw is (says_stand base code s.memory w.code (i.Branch 8 true disp22 ∷ []) a say) in
+    bare_goes s to b 0 4 1 1 (always s w.ready w.slot (omega arith) 8 disp22 to (rw is r) words.0 refl refl)
+    (omega arith) (omega arith) (omega arith)
+jump_goes base code to a b s (jump_long f say) w is low order low' aligned =
+    let words = says_stand base code s.memory w.code (long_jump to) a say in
+    record {
+      count = 4;
+      memory = store_word s.memory (page_word 0) (register_of s 1);
+      some = omega arith;
+      few = omega arith;
+      inside = omega arith;
+      hops = long_jumps_hop to s w.valid w.ready (omega arith) w.page (rw is words) (omega arith) aligned;
+      stored = λ counted free. elim free [
+        | inl other ↦ long_jumps_store to s w.valid w.ready (omega arith) w.page
+            (rw is words) (omega arith) aligned counted
+            other
+        | inr near ↦ absurd (omega (arith, f, is, near))
+      ];
+    }
+
+pub jumps_hop : JumpsHop
+jumps_hop pieces base p place h k n to e s w is =
+    let stands : JumpStands base p.code (slice_index p.at to.0) (place k n) (place k (suc n)) = h.items k n
+    (it.Jump to) e in
+    let a = h.aligned to.0 in
+    jump_goes base p.code (slice_index p.at to.0) (place k n) (place k (suc n)) s stands w is
+    (item_low pieces base p place h k n (it.Jump to) e)
+    (order base p.code (slice_index p.at to.0) (place k n) (place k (suc n)) stands) a.1 a.0
+  where
+    order : (base : ℕ) (code : List ℕ) (to a b : ℕ) → JumpStands base code to a b → a ≤ b
+    order base code to a b (jump_nothing e f) = omega arith
+    order base code to a b (jump_short d f r s) = omega arith
+    order base code to a b (jump_long f s) = omega arith
 
 -- where a branch in its long form goes
 past_jump : (base : ℕ) (code : List ℕ) (to a b : ℕ) (s : State) (flag : Bool) → CanRun base code s → s.pc ≡ a
@@ -279,15 +246,7 @@ past_jump : (base : ℕ) (code : List ℕ) (to a b : ℕ) (s : State) (flag : Bo
     → SaysFrom base code (a + 8) (long_jump to) → HopsBare 2 s (if not flag then a + 24 else s.pc + 8)
     → Goes s (if flag then to else b) b 1 6 2
 past_jump base code to a b s false w is low low' aligned e say h =
-    record {
-      count = 2;
-      memory = s.memory;
-      some = omega arith;
-      few = omega arith;
-      inside = omega arith;
-      hops = rw e h.0;
-      stored = λ counted free. h.1 counted;
-    }
+    bare_goes s b b 1 6 2 2 (rw e h) (omega arith) (omega arith) (omega arith)
 past_jump base code to a b s true w is low low' aligned e say h =
     let s2 = hopped s (s.pc + 8) s.memory in
     let words = says_stand base code s.memory w.code (long_jump to) (a + 8) say in
@@ -326,17 +285,8 @@ branch_goes : (base : ℕ) (code : List ℕ) (c to a b : ℕ) (s : State) → Br
     → b ≤ 2 ^ 31 → to ≤ 2 ^ 31 → to % 4 ≡ 0 → Goes s (if holds_of c s.codes then to else b) b 1 6 2
 branch_goes base code c to a b s (branch_short disp22 f r say) w is small low low' aligned =
     let words = says_stand base code s.memory w.code (i.Branch c true disp22 ∷ nop ∷ []) a say in
-    let h = annulled s w.ready w.slot (omega arith) c disp22 to (holds_of c s.codes) (c == 8) (rw is r)
-    (rw is words) refl refl in
-    record {
-      count = h.count;
-      memory = s.memory;
-      some = h.some;
-      few = omega (arith, h.few);
-      inside = omega (arith, h.few);
-      hops = rw (let g : s.pc + 8 ≡ b = omega arith in g) at h.bare.0;
-      stored = λ counted free. h.bare.1 counted;
-    }
+    rw (let g : s.pc + 8 ≡ b = omega arith in g) at (annulled s w.ready w.slot (omega arith) c disp22 to b
+    (holds_of c s.codes) (c == 8) (omega arith) (rw is r) (rw is words) refl refl)
 branch_goes base code c to a b s (branch_long f say say') w is small low low' aligned =
     let words = says_stand base code s.memory w.code (i.Branch (opposite c) false (pos 6) ∷ nop ∷ []) a say in
     past_jump base code to a b s (holds_of c s.codes) w is low low' aligned f say'

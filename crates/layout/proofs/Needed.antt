@@ -1,26 +1,19 @@
 -- How much room the compact layout needs.
-use Rattle.layout.proofs.Common.{◌≡◌, ℕ, zero, suc, ◌+◌, ◌*◌, ◌^◌, ◌<◌, ◌≤◌, Bool, false, List, [], ◌∷◌, ◌++◌, length, map, get_or, take, slice_get, Option, Some, None, refl, ap, sym, ◌∙◌, arith, false≢true, false_from_ne_true, sum_by-cons, take_more, take_all, slice_get-get_or, slice_get_within, Item, Entry, AllLead, LeadsBelow, IsLaid, Placement, item_at, long_words, piece_words, short_words, size_of, compact_order, Forms, entries_in, entries_from, entries_of, far, far_from, goal_of, out_of_reach, offset, start_of, target, width, IsCompact, LongIsEnough, NeededOnce, ShortIsEnough, nat_tests}
+use Rattle.layout.proofs.Common.{◌≡◌, ℕ, zero, suc, ◌+◌, ◌*◌, ◌^◌, ◌<◌, ◌≤◌, Bool, false, List, [], ◌∷◌, ◌++◌, length, map, get_or, take, slice_get, Option, Some, None, refl, ap, sym, ◌∙◌, arith, false≢true, false_from_ne_true, sum_by-cons, take_more, take_all, slice_get-get_or, slice_get_within, Item, Entry, AllLead, IsLaid, Placement, item_at, long_words, piece_words, short_words, size_of, compact_order, Forms, entries_in, entries_from, entries_of, far, far_from, goal_of, out_of_reach, offset, start_of, target, width, IsCompact, LongIsEnough, NeededOnce, ShortIsEnough, nat_tests}
 use Rattle.layout.specs.declared.items.Item.TheVariants as it
 use Rattle.layout.specs.declared.entries.Entry.TheVariants as en
-use Rattle.layout.proofs.Offsets.{offset_none}
+use Rattle.layout.proofs.Offsets.{offset_none, offset_same}
 use Rattle.layout.proofs.Laying.{exits_lead, item_is, whole_is}
 use Rattle.layout.proofs.Listed.{items_at, weigh, weighs_less}
 use Rattle.layout.proofs.Widening.{offset_more, widened_once}
-use Rattle.layout.proofs.Assembled.{entry_is, piece_at, size_is}
+use Rattle.layout.proofs.Assembled.{entry_is, entry_no, leads_to, next_entry, piece_at, size_is, start_still, step}
 
 -- ---- one number
 
-same_offset : (entries : List Entry) (long other : Forms) → ((n : ℕ) → long n ≡ other n) → (n : ℕ)
-    → offset entries long n ≡ offset entries other n
-same_offset entries long other h zero = offset_none entries long ∙ sym (offset_none entries other)
-same_offset entries long other h (suc n) =
-    let same = ap (λ (x : Bool). width x (slice_get entries n) (slice_get entries (suc n))) (h n) in
-    omega (arith, same_offset entries long other h n, offset_more entries long n, offset_more entries other n, same)
-
 pub needed_once : NeededOnce
 needed_once pieces bytes other a b =
-    let e = same_offset (entries_of pieces) a.long b.long (widened_once (entries_of pieces) a.long b.long a.widened
-    b.widened) (length (entries_of pieces)) in
+    let e = offset_same (entries_of pieces) a.long b.long (length (entries_of pieces))
+    (λ k _. widened_once (entries_of pieces) a.long b.long a.widened b.widened k) in
     a.value ∙ ap (λ (n : ℕ). 4 * n) e ∙ sym b.value
 
 -- ---- no more than the long forms
@@ -83,63 +76,49 @@ short_low long x next t s = grind arith
 
 module _ (pieces : List (List Item)) (base : ℕ) (p : Placement) (place : ℕ → ℕ → ℕ) (leads : AllLead pieces)
     (h : IsLaid pieces base p place) (c : IsCompact pieces base place) (small : 4 * length p.code < 2 ^ 23) where
-  abbrev entry_no : ℕ → ℕ → ℕ
-  entry_no k n = start_of (entries_of pieces) k + 1 + n
-
-  near : (k n : ℕ) → k < length pieces → n ≤ size_of pieces k → offset (entries_of pieces) c.long (start_of
-      (entries_of pieces) k + 1 + n) < 2 ^ 21
+  near : (k n : ℕ) → k < length pieces → n ≤ size_of pieces k
+      → offset (entries_of pieces) c.long (entry_no pieces k n) < 2 ^ 21
   near k n l m = omega (arith, c.places k n l m, (h.within k n l m).ends, small)
 
   start_near : (k : ℕ) → k < length pieces → offset (entries_of pieces) c.long (start_of (entries_of pieces) k) < 2 ^ 21
-  start_near k l =
-      let e = ap (offset (entries_of pieces) c.long) (let f : start_of (entries_of pieces) k + 1 + 0 ≡ suc (start_of
-      (entries_of pieces) k) = omega arith in f) in
-      let more = offset_more (entries_of pieces) c.long (start_of (entries_of pieces) k) in
-      omega (arith, near k 0 l (omega arith), e, more)
+  start_near k l = omega (arith, near k 0 l (omega arith), start_still pieces leads c.long k l)
 
   item_size : (k n : ℕ) (x : Item) → item_at pieces k n ≡ Some x → suc n ≤ size_of pieces k
   item_size k n x e = omega (arith, slice_get_within (items_at pieces k) n x (sym (item_is pieces k n) ∙ e), size_is pieces k)
 
   short : (k n : ℕ) (x : Item) → item_at pieces k n ≡ Some x → (to : ℕ) → target (Some (en.Item x)) ≡ Some to
-      → to < length pieces → c.long (entry_no k n) ≡ false
+      → to < length pieces → c.long (entry_no pieces k n) ≡ false
   short k n x e to t l =
-      false_from_ne_true (c.long (entry_no k n)) (λ f. false≢true (sym reach ∙ c.widened.needed (entry_no k n) f))
+      false_from_ne_true (c.long (entry_no pieces k n))
+      (λ f. false≢true (sym reach ∙ c.widened.needed (entry_no pieces k n) f))
     where
-      goal_is : goal_of (entries_of pieces) (entry_no k n) ≡ Some (start_of (entries_of pieces) to)
+      goal_is : goal_of (entries_of pieces) (entry_no pieces k n) ≡ Some (start_of (entries_of pieces) to)
       goal_is = cc (entry_is pieces leads k n x e, t)
 
-      reach : out_of_reach (entries_of pieces) c.long (entry_no k n) ≡ false
+      reach : out_of_reach (entries_of pieces) c.long (entry_no pieces k n) ≡ false
       reach =
-          ap (far_from (entries_of pieces) c.long (entry_no k n)) goal_is
+          ap (far_from (entries_of pieces) c.long (entry_no pieces k n)) goal_is
           ∙ not_far _ _ (near k n (piece_at pieces k n x e).0 (let s = item_size k n x e in omega (arith, s)))
           (start_near to l)
 
-  step : (k n : ℕ) (x : Item) → item_at pieces k n ≡ Some x
-      → place k (suc n) ≡ place k n + 4 * width (c.long (entry_no k n)) (Some (en.Item x)) (slice_get (entries_of
-      pieces) (suc (entry_no k n)))
-  step k n x e =
+  one_more : (k n : ℕ) (x : Item) → item_at pieces k n ≡ Some x
+      → place k (suc n) ≡ place k n + 4 * width (c.long (entry_no pieces k n)) (Some (en.Item x)) (next_entry pieces k n)
+  one_more k n x e =
       let q = (piece_at pieces k n x e).0 in
       let i = item_size k n x e in
-      let d = ap (offset (entries_of pieces) c.long) (let f : start_of (entries_of pieces) k + 1 + suc n ≡ suc
-      (entry_no k n) = omega arith in f) in
-      let w = ap (λ (z : Option Entry). width (c.long (entry_no k n)) z (slice_get (entries_of pieces) (suc (entry_no
-      k n)))) (entry_is pieces leads k n x e) in
-      let more = offset_more (entries_of pieces) c.long (entry_no k n) in
-      omega (arith, c.places k n q (omega (arith, i)), c.places k (suc n) q i, d, more, w)
-
-  leads_to : (k n : ℕ) (x : Item) → item_at pieces k n ≡ Some x → LeadsBelow (length pieces) (Some x)
-  leads_to k n x e = rw e at (leads k n)
+      let more = step pieces leads c.long k n x e in
+      omega (arith, c.places k n q (omega (arith, i)), c.places k (suc n) q i, more)
 
   all_short : (k n : ℕ) (x : Item) → item_at pieces k n ≡ Some x → place k (suc n) ≤ place k n + 4 * short_words x
   all_short k n (it.Jump to) e =
-      let w = short_low (c.long (entry_no k n)) (it.Jump to) (slice_get (entries_of pieces) (suc (entry_no k n))) (λ
-      t. cc) (short k n (it.Jump to) e to.0 refl (leads_to k n (it.Jump to) e)) in
-      omega (arith, step k n (it.Jump to) e, w)
+      let w = short_low (c.long (entry_no pieces k n)) (it.Jump to) (next_entry pieces k n) (λ
+      t. cc) (short k n (it.Jump to) e to.0 refl (leads_to pieces leads k n (it.Jump to) e)) in
+      omega (arith, one_more k n (it.Jump to) e, w)
   all_short k n (it.Branch b to) e =
-      let w = short_low (c.long (entry_no k n)) (it.Branch b to) (slice_get (entries_of pieces) (suc (entry_no k n)))
-      (λ t. cc) (short k n (it.Branch b to) e to.0 refl (leads_to k n (it.Branch b to) e)) in
-      omega (arith, step k n (it.Branch b to) e, w)
-  all_short k n x e = omega (arith, step k n x e)
+      let w = short_low (c.long (entry_no pieces k n)) (it.Branch b to) (next_entry pieces k n)
+      (λ t. cc) (short k n (it.Branch b to) e to.0 refl (leads_to pieces leads k n (it.Branch b to) e)) in
+      omega (arith, one_more k n (it.Branch b to) e, w)
+  all_short k n x e = omega (arith, one_more k n x e)
 
 pub short_is_enough : ShortIsEnough
 short_is_enough pieces base p place are h c small k n x e = all_short pieces base p place are.leads h c small k n x e

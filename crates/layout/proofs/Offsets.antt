@@ -18,6 +18,15 @@ pub offset_none : (entries : List Entry) (long : Forms) → offset entries long 
 unfolding offset
 offset_none entries long = refl
 
+-- where the forms before it are the same
+pub offset_same : (entries : List Entry) (long other : Forms) (n : ℕ) → ((k : ℕ) → k < n → long k ≡ other k)
+    → offset entries long n ≡ offset entries other n
+offset_same entries long other zero h = offset_none entries long ∙ sym (offset_none entries other)
+offset_same entries long other (suc n) h =
+    let before = offset_same entries long other n (λ k l. h k (omega (arith, l))) in
+    let own = ap (λ (b : Bool). width b (slice_get entries n) (slice_get entries (suc n))) (h n (omega arith)) in
+    omega (arith, offset_more entries long n, offset_more entries other n, before, own)
+
 width_small : (long : Bool) (x next : Option Entry) → width long x next ≤ 6
 width_small long x next = grind arith
 

@@ -1,7 +1,7 @@
 -- Passes that widen what is out of reach.
 use Rattle.layout.proofs.Common.{◌≡◌, ℕ, zero, suc, ◌+◌, ◌-◌, ◌<◌, ◌≤◌, ◌^◌, ◌⊎◌, inl, inr, Bool, true, false, cond, not, ◌&&◌, List, ◌∷◌, length, get_or, set, replicate, count_by, slice_get, Option, Some, None, IfSome, refl, ap, sym, subst, ◌∙◌, add-one, arith, if◌then◌else◌, slice_index, option_map, nat_tests, cases_eq, cases_lt, false≢true, count_by-le-length, sum_by-set, slice_get_past, length-set, get_or-set_other, get_or-set_same, Entry, Forms, start_of, target, far, far_from, out_of_reach, offset, width, IsWidened, beyond, beyond_of, far_of, forms_in, goal_in, noted, widens, IsFormed, IsListing, IsOffsets, IsPassed, IsWidening}
 use Rattle.layout.specs.declared.entries.Entry.TheVariants as en
-use Rattle.layout.proofs.Offsets.{AreOffsets, all_offsets, noted_len, offset_none, offsets_more}
+use Rattle.layout.proofs.Offsets.{AreOffsets, all_offsets, noted_len, offset_same, offsets_more}
 use Rattle.layout.proofs.Widening.{add_more, offset_more, rises, wider, widening_more}
 use Rattle.layout.proofs.Walked.{goal_low, reach_is, turn, walk_more, IsWalk}
 
@@ -61,14 +61,6 @@ module _ (entries : List Entry) (forms : List Bool) (at : List ℕ) (all : ℕ) 
   }
 
 -- ---- the words before an entry, where others change
-
-offset_same : (entries : List Entry) (long other : Forms) (n : ℕ) → ((k : ℕ) → k < n → long k ≡ other k)
-    → offset entries long n ≡ offset entries other n
-offset_same entries long other zero h = offset_none entries long ∙ sym (offset_none entries other)
-offset_same entries long other (suc n) h =
-    let before = offset_same entries long other n (λ k l. h k (omega (arith, l))) in
-    let own = ap (λ (b : Bool). width b (slice_get entries n) (slice_get entries (suc n))) (h n (omega arith)) in
-    omega (arith, offset_more entries long n, offset_more entries other n, before, own)
 
 offset_past : (entries : List Entry) (long other : Forms) (n : ℕ) → ((k : ℕ) → n ≤ k → long k ≡ other k) → (m : ℕ)
     → offset entries other (n + m) + offset entries long n ≡ offset entries long (n + m) + offset entries other n

@@ -1,5 +1,5 @@
 -- Each entry's words stand in the code, and say what it is.
-use Rattle.layout.proofs.Common.{◌≡◌, ℕ, zero, suc, ◌+◌, ◌-◌, ◌*◌, ◌/◌, ◌%◌, ◌^◌, ◌<◌, ◌≤◌, inl, inr, Bool, true, false, List, [], ◌∷◌, ◌++◌, length, slice_get, Option, Some, refl, ap, sym, ◌∙◌, arith, length-append, pos, negsuc, ℤ, nat_lt, if◌then◌else◌, slice_index, nat_tests, lt-ltb, cases_lt, cond_both, Instr, long_jump, of_page, Item, Entry, Placement, SaysFrom, JumpStands, jump_nothing, jump_short, jump_long, BranchStands, branch_short, branch_long, Stands, Reaches, nop, opposite, Forms, far, leads_next, offset, width, between, branch_in_form, code_at, code_to, entry_code, has_condition, jump_in_form, or_zero, target_offset}
+use Rattle.layout.proofs.Common.{◌≡◌, ℕ, zero, suc, ◌+◌, ◌-◌, ◌*◌, ◌/◌, ◌%◌, ◌^◌, ◌<◌, ◌≤◌, inl, inr, Bool, true, false, List, [], ◌∷◌, ◌++◌, length, slice_get, Option, Some, refl, ap, sym, ◌∙◌, arith, length-append, pos, negsuc, nat_lt, if◌then◌else◌, slice_index, nat_tests, lt-ltb, cases_lt, cond_both, Instr, long_jump, of_page, Item, Entry, Placement, SaysFrom, JumpStands, jump_nothing, jump_short, jump_long, BranchStands, branch_short, branch_long, Stands, Reaches, nop, opposite, Forms, far, leads_next, offset, width, between, branch_in_form, code_at, code_to, entry_code, has_condition, jump_in_form, or_zero, target_offset}
 use Rattle.std.proofs.lemmas.Int.{ints}
 use Rattle.v8_decode.specs.declared.Op2.TheVariants.{Imm}
 use Rattle.v8_decode.specs.declared.Instr.TheVariants as i
@@ -53,9 +53,6 @@ pub get_rest : {A : Type 0} (xs ys : List A) (j : ℕ) → slice_get (xs ++ ys) 
 get_rest [] ys j = ap (slice_get ys) (let e : 0 + j ≡ j = omega arith in e)
 get_rest (x ∷ xs) ys j = cc ((let e : suc (length xs) + j ≡ suc (length xs + j) = omega arith in e), get_rest xs ys j)
 
-has_first : (code xs ys : List ℕ) (n : ℕ) → Has code n (xs ++ ys) → Has code n xs
-has_first code xs ys n h j w e = h j w (get_first xs ys j w e)
-
 has_rest : (code xs ys : List ℕ) (n m : ℕ) → m ≡ n + length xs → Has code n (xs ++ ys) → Has code m ys
 has_rest code xs ys n m f h j w e =
     cc ((let g : m + j ≡ n + (length xs + j) = omega arith in g), h (length xs + j) w (get_rest xs ys j ∙ e))
@@ -76,30 +73,16 @@ says_words base code (x ∷ xs) n a e d h = (
 )
 
 long_jump_decodes : (to : ℕ) → to < 2 ^ 32 → AllDecode (long_jump to)
-long_jump_decodes to low = (
-  decode_of-word_of (i.Store stores.ST 1 0 (of_page 0)) refl refl,
-  (
-    decode_of-word_of (i.Sethi 1 (to / 1024)) refl (high (to / 1024) (omega arith)),
-    (
-      decode_of-word_of (i.Jmpl 0 1 (Imm (pos (to % 1024)))) refl (rest (to % 1024) (omega arith)),
-      (decode_of-word_of (i.Load loads.LD 1 0 (of_page 0)) refl refl, tt),
-    ),
-  ),
-)
-  where
-    high : (n : ℕ) → n < 2 ^ 22 → nat_lt n (2 ^ 22) ≡ true
-    high n h = grind (arith, nat_tests)
-
-    rest : (n : ℕ) → n < 1024 → nat_lt n (2 ^ (13 - 1)) ≡ true
-    rest n h = grind (arith, nat_tests)
+long_jump_decodes to low =
+    let saves = decode_of-word_of (i.Store stores.ST 1 0 (of_page 0)) refl refl in
+    let sets = decode_of-word_of (i.Sethi 1 (to / 1024)) refl (lt-ltb _ _ (omega arith)) in
+    let jumps = decode_of-word_of (i.Jmpl 0 1 (Imm (pos (to % 1024)))) refl (lt-ltb _ _ (omega arith)) in
+    let restores = decode_of-word_of (i.Load loads.LD 1 0 (of_page 0)) refl refl in
+    (saves, (sets, (jumps, (restores, tt))))
 
 opposite_low : (cond : ℕ) → nat_lt cond 16 ≡ true → nat_lt (opposite cond) 16 ≡ true
 opposite_low c h = cond_both (nat_lt c 8) (c + 8) (c - 8) (λ n. nat_lt n 16 ≡ true) (λ e. grind (arith, nat_tests))
     (λ e. grind (arith, nat_tests))
-
-branch_decodes : (cond : ℕ) (annul : Bool) (disp : ℤ) → nat_lt cond 16 ≡ true → fits_signed 22 disp ≡ true
-    → decode_of (word_of (i.Branch cond annul disp)) ≡ i.Branch cond annul disp
-branch_decodes cond annul disp h f = decode_of-word_of (i.Branch cond annul disp) h f
 
 -- ---- how many words an entry has
 
@@ -117,17 +100,14 @@ code_length base entries long (suc n) =
     let both = length-append (code_to base entries long n) (code_at base entries long n) in
     omega (arith, code_length base entries long n, same, both, c, offset_more entries long n)
 
-has_more : (code xs ys : List ℕ) (n : ℕ) (ws : List ℕ) → code ≡ xs ++ ys → Has xs n ws → Has code n ws
-has_more code xs ys n ws e h j w f = cc (e, get_first xs ys (n + j) w (h j w f))
-
 -- the words of an entry stand in the code
 pub has_code : (base : ℕ) (entries : List Entry) (long : Forms) (m n : ℕ) → n < m
     → Has (code_to base entries long m) (offset entries long n) (code_at base entries long n)
 has_code base entries long zero n l = absurd (omega arith)
 has_code base entries long (suc m) n l = elim (cases_lt n m) [
   | inl u ↦
-      has_more (code_to base entries long (suc m)) (code_to base entries long m) (code_at base entries long m)
-      (offset entries long n) (code_at base entries long n) (code_more base entries long m) (has_code base entries long m n u)
+      rw (code_more base entries long m)
+      (λ j w f. get_first (code_to base entries long m) _ _ w (has_code base entries long m n u j w f))
   | inr u ↦ rw (let s : n ≡ m = omega arith in s) last
 ]
   where
@@ -152,7 +132,7 @@ module _ (base : ℕ) (p : Placement) where
   jump_says false false f t a b k ea ek la lt here near eb h =
       jump_short (between f t) (omega (arith, eb)) (rw ek (rw ea (reaches base f t la lt)))
       (says_words base p.code (i.Branch 8 true (between f t) ∷ []) f a ea
-      (branch_decodes 8 true (between f t) refl (fits f t (near refl)), tt) h)
+      (decode_of-word_of (i.Branch 8 true (between f t)) refl (fits f t (near refl)), tt) h)
 
   branch_says : (long : Bool) (c f t a b k : ℕ) → nat_lt c 16 ≡ true → a ≡ base + 4 * f → k ≡ base + 4 * t
       → base + 4 * f ≤ 2 ^ 31
@@ -161,16 +141,18 @@ module _ (base : ℕ) (p : Placement) where
   branch_says true c f t a b k range ea ek la lt near eb h =
       let first = i.Branch (opposite c) false (pos 6) ∷ nop ∷ [] in
       branch_long (omega (arith, eb)) (says_words base p.code first f a ea (
-        branch_decodes (opposite c) false (pos 6) (opposite_low c range) refl,
+        decode_of-word_of (i.Branch (opposite c) false (pos 6)) (opposite_low c range) refl,
         (decode_of-word_of nop refl refl, tt),
-      ) (has_first p.code (words_of first) (words_of (long_jump (base + 4 * t))) f h)) (rw ek
+      ) (λ j w e. h j w (get_first (words_of first) (words_of (long_jump (base + 4 * t))) j w e))) (rw ek
       (says_words base p.code (long_jump (base + 4 * t)) (f + 2) (a + 8) (omega (arith, ea))
       (long_jump_decodes (base + 4 * t) (omega (arith, lt)))
       (has_rest p.code (words_of first) (words_of (long_jump (base + 4 * t))) f (f + 2) refl h)))
   branch_says false c f t a b k range ea ek la lt near eb h =
       branch_short (between f t) (omega (arith, eb)) (rw ek (rw ea (reaches base f t la lt)))
-      (says_words base p.code (i.Branch c true (between f t) ∷ nop ∷ []) f a ea
-      (branch_decodes c true (between f t) range (fits f t (near refl)), (decode_of-word_of nop refl refl, tt)) h)
+      (says_words base p.code (i.Branch c true (between f t) ∷ nop ∷ []) f a ea (
+        decode_of-word_of (i.Branch c true (between f t)) range (fits f t (near refl)),
+        (decode_of-word_of nop refl refl, tt),
+      ) h)
 
   -- the piece to which an item leads starts at word t
   abbrev pub GoesTo : Item → ℕ → Type 0

@@ -206,8 +206,8 @@ pub record IsPut (base : ℕ) (entries : List Entry) (starts : List ℕ) (long :
   pub at : p.at.items ≡ addresses base starts
   pub ranges : p.ranges.items ≡ ranges_from (address_of base entries long) 0 None entries
 
--- there is room for so many bytes, or a fault tells that there isn't
+-- there is room for so many bytes, also where memory was wanting, or a fault tells that there isn't
 abbrev pub FitsIn : Result Placed LayoutFault → ℕ → ℕ → Type 0
 FitsIn (Ok p) bytes room = bytes ≤ room
 FitsIn (Err (faults.Room needed had)) bytes room = (needed ≡ bytes) × (had ≡ room) × (room < needed)
-FitsIn (Err faults.NoMemory) bytes room = Unit {0}
+FitsIn (Err faults.NoMemory) bytes room = bytes ≤ room

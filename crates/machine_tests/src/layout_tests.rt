@@ -1,7 +1,7 @@
 //! Placed pieces, with words that were made by hand.
 
-ghost use Rattle.std.specs.Prelude.{◌^◌, ◌≤◌, IfOk};
-ghost use Rattle.layout.specs.Laid.{ArePieces};
+ghost use Rattle.std.specs.Prelude.{◌^◌, ◌≤◌, [], ◌∷◌, false, IfOk, Some};
+ghost use Rattle.layout.specs.Laid.{AreMarked, ArePieces, LeadsBelow};
 
 use eel_base::{Addr, PieceNo, Range};
 use layout::{Item, LayoutFault, Piece, place};
@@ -92,12 +92,14 @@ fn the_target_of_a_jump_comes_next(rt: HostRuntime) -> Result<(), Fail> {
     Ok(())
 }
 
-// A Jump past so many words, which end in no Jump.
-fn jump_past(alloc: Global, count: usize) -> Result<Vec<Piece>, AllocError>
+// An item that leads past so many words, which end in no Jump.
+fn pieces_past(alloc: Global, item: Item, count: usize) -> Result<Vec<Piece>, AllocError>
     requires few { count ≤ 2 ^ 22 }
+    requires leads { LeadsBelow 3 (Some item) }
+    requires unmarked { AreMarked false (item ∷ []) }
     ensures { IfOk result (λ pieces. ArePieces pieces.items) }
 {
-    let first = vec![in alloc; Item::Jump(PieceNo(2))]?;
+    let first = vec![in alloc; item]?;
     let second = vec![in alloc; Item::Word(0x0100_0000); count]?;
     let third = vec![in alloc; Item::Word(0x0100_0000)]?;
     let pieces = vec![in alloc;
@@ -108,26 +110,62 @@ fn jump_past(alloc: Global, count: usize) -> Result<Vec<Piece>, AllocError>
     Ok(pieces)
 }
 
-// The first word of the code, and how many there are.
-fn first_and_count(alloc: Global, count: usize) -> Result<(u32, usize), Fail>
+// The code of a Jump past so many words.
+fn jump_past(alloc: Global, count: usize) -> Result<Vec<u32>, Fail>
     requires few { count ≤ 2 ^ 22 }
 {
-    let pieces = jump_past(alloc, count)?;
-    let placed = place(alloc, &pieces, BASE, 0x3fff_0000)?;
-    let first = placed.code.first().copied().ok_or("a word")?;
-    Ok((first, placed.code.len()))
+    let pieces = pieces_past(alloc, Item::Jump(PieceNo(2)), count)?;
+    Ok(place(alloc, &pieces, BASE, 0x3fff_0000)?.code)
+}
+
+// The code of a Branch past so many words, where the codes say equal.
+fn branch_past(alloc: Global, count: usize) -> Result<Vec<u32>, Fail>
+    requires few { count ≤ 2 ^ 22 }
+{
+    let cond = Cond::new(1).ok_or("a condition")?;
+    let to = PieceNo(2);
+    let pieces = pieces_past(alloc, Item::Branch { cond, to }, count)?;
+    Ok(place(alloc, &pieces, BASE, 0x3fff_0000)?.code)
 }
 
 #[test]
 fn the_longest_short_jump(rt: HostRuntime) -> Result<(), Fail> {
-    let short = first_and_count(rt.alloc(), 2_097_150)?;
-    assert_eq!(rt; short, (0x309f_ffff, 2_097_152));
+    let code = jump_past(rt.alloc(), 2_097_150)?;
+    assert_eq!(rt; code.len(), 2_097_152);
+    assert_eq!(rt; code.first().copied(), Some(0x309f_ffff));
     Ok(())
 }
 
 #[test]
 fn the_shortest_long_jump(rt: HostRuntime) -> Result<(), Fail> {
-    let long = first_and_count(rt.alloc(), 2_097_151)?;
-    assert_eq!(rt; long, (0xc220_3000, 2_097_156));
+    let code = jump_past(rt.alloc(), 2_097_151)?;
+    let jump = [0xc220_3000, 0x0310_2004, 0x81c0_600c, 0xc200_3000];
+    assert_eq!(rt; code.len(), 2_097_156);
+    assert_eq!(rt; code.get(..4), Some(jump.as_slice()));
+    Ok(())
+}
+
+#[test]
+fn the_longest_short_branch(rt: HostRuntime) -> Result<(), Fail> {
+    let code = branch_past(rt.alloc(), 2_097_149)?;
+    assert_eq!(rt; code.len(), 2_097_152);
+    assert_eq!(rt; code.get(..2), Some([0x229f_ffff, 0x0100_0000].as_slice()));
+    Ok(())
+}
+
+// It is a branch on the opposite condition, past a long jump.
+#[test]
+fn the_shortest_long_branch(rt: HostRuntime) -> Result<(), Fail> {
+    let code = branch_past(rt.alloc(), 2_097_150)?;
+    let branch = [
+        0x1280_0006,
+        0x0100_0000,
+        0xc220_3000,
+        0x0310_2004,
+        0x81c0_6010,
+        0xc200_3000,
+    ];
+    assert_eq!(rt; code.len(), 2_097_157);
+    assert_eq!(rt; code.get(..6), Some(branch.as_slice()));
     Ok(())
 }

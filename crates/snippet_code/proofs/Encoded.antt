@@ -1,5 +1,5 @@
 -- The words of a snippet decode to its instructions.
-use Rattle.snippet_code.proofs.Common.{◌≡◌, ℕ, suc, ◌+◌, ◌-◌, ◌^◌, ◌<◌, ◌≤◌, Bool, true, false, ◌==◌, List, [], ◌∷◌, ◌++◌, length, map, refl, arith, All, cond_both, if◌then◌else◌, nat_lt, slice_index, pos, negsuc, nat_tests, All-head, All-tail, decode_of, AluOp, Instr, word_of, Op, Add, Put, Keep, Top, Count, Log, IsOp, cells_end, cell_at, high, low, load_low, store_low, load_next, store_next, add_one, of_two, with_number, add_low, compare, next_if_greater, small, add_words, put_words, top_words, count_words, log_words, op_words, all_words, numbered, save, restore, is_small, op_registers, registers_for, EndsLow, EndLow}
+use Rattle.snippet_code.proofs.Common.{◌≡◌, ℕ, suc, ◌+◌, ◌-◌, ◌^◌, ◌<◌, ◌≤◌, Bool, true, false, ◌==◌, List, [], ◌∷◌, ◌++◌, length, map, refl, arith, All, cond_both, if◌then◌else◌, nat_lt, slice_index, pos, negsuc, nat_tests, All-head, All-tail, decode_of, AluOp, Instr, word_of, Op, Add, Put, Keep, Top, Count, Log, IsOp, cells_end, cell_at, high, low, load_low, store_low, load_next, store_next, add_one, of_two, with_number, add_low, compare, small, add_words, put_words, top_words, count_words, log_words, op_words, all_words, numbered, save, restore, is_small, op_registers, registers_for, EndsLow, EndLow}
 use Rattle.v8_decode.specs.Ranges.{is_in_range}
 use Rattle.v8_decode.specs.declared.AluOp.TheVariants as ops
 use Rattle.v8_decode.specs.Forms.{has_form}
@@ -56,9 +56,6 @@ add_low_has n rd h = (grind (arith, nat_tests), grind (arith, nat_tests))
 compare_has : (rs1 rs2 : ℕ) → rs1 < 32 → rs2 < 32 → HasWord (compare rs1 rs2)
 compare_has rs1 rs2 h k = (grind (arith, nat_tests), grind (arith, nat_tests))
 
-branch_has : HasWord next_if_greater
-branch_has = (refl, refl)
-
 small_fits : (amount : ℕ) → is_small amount ≡ true → amount < 2 ^ 32 → fits_signed 13 (small amount) ≡ true
 small_fits amount h l =
     cond_both (nat_lt amount 4096) (pos amount) (negsuc (2 ^ 32 - 1 - amount)) (λ z. fits_signed 13 z ≡ true) (λ e. e)
@@ -107,7 +104,7 @@ module _ (r : ℕ → ℕ) (want : ℕ) (below : (k : ℕ) → k < want → r k 
   top_have a reg true h l room =
       let r0 = below 0 (omega arith) in
       let r1 = below 1 (omega arith) in
-      high_has a (r 0) h r0 & load_has a (r 0) (r 1) r0 r1 & compare_has reg (r 1) l r1 & branch_has
+      high_has a (r 0) h r0 & load_has a (r 0) (r 1) r0 r1 & compare_has reg (r 1) l r1 & (refl, refl)
       & store_has a (r 0) reg r0 l & tt
   top_have a reg false h l room =
       let r0 = below 0 (omega arith) in

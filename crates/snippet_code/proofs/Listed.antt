@@ -1,5 +1,5 @@
 -- Cells as a list, and as words of memory.
-use Rattle.snippet_code.proofs.Common.{◌≡◌, ◌≢◌, ℕ, ◌+◌, ◌*◌, ◌/◌, ◌%◌, ◌^◌, ◌<◌, ◌≤◌, ◌⊎◌, inl, inr, max, List, [], ◌∷◌, length, map, get_or, refl, ap, sym, ◌∙◌, arith, range_with_len, ext_get_or, cases_lt, mod_below, pow_pos, equal_or_not, put, put_other, put_same, Op, Add, Put, Keep, Top, Count, Log, update, cells_end, set, ap₂, get_or-set_same, get_or-set_other, length-set, changed, with_wide, updated_by, cell_of, cell_at, IsCellIn, IsCellOf}
+use Rattle.snippet_code.proofs.Common.{◌≡◌, ◌≢◌, ℕ, ◌+◌, ◌*◌, ◌/◌, ◌%◌, ◌^◌, ◌<◌, ◌⊎◌, inl, inr, max, List, [], ◌∷◌, length, map, get_or, refl, ap, sym, ◌∙◌, arith, range_with_len, ext_get_or, cases_lt, mod_below, pow_pos, equal_or_not, put, put_other, put_same, Op, Add, Put, Keep, Top, Count, Log, update, cells_end, set, ap₂, get_or-set_same, get_or-set_other, length-set, changed, with_wide, updated_by, cell_of, cell_at, IsCellIn, IsCellOf}
 use Rattle.std.proofs.lemmas.List.FromFn.{get_or-map-range_with_len, length-map-range_with_len}
 use Rattle.snippet_code.proofs.Working.{update_one, update_all}
 
@@ -103,13 +103,6 @@ away b v g a ne = put_other b v g a (λ e. ne (sym e))
 
 one_away : (base : ℕ) (regs : ℕ → ℕ) (op : Op) (g : ℕ → ℕ) (a : ℕ)
     → ((k : ℕ) → IsCellIn op k → cell_at base k ≢ a) → update_one (cell_at base) regs op g a ≡ g a
-one_away base regs (Add cell amount) g a far =
-    away (cell_at base cell) ((g (cell_at base cell) + amount) % 2 ^ 32) g a (far cell (omega arith, omega arith))
-one_away base regs (Put cell value) g a far = away (cell_at base cell) value g a (far cell (omega arith, omega arith))
-one_away base regs (Keep cell reg) g a far =
-    away (cell_at base cell) (regs reg) g a (far cell (omega arith, omega arith))
-one_away base regs (Top cell reg) g a far =
-    away (cell_at base cell) (max (g (cell_at base cell)) (regs reg)) g a (far cell (omega arith, omega arith))
 one_away base regs (Count cell) g a far =
     let number = (2 ^ 32 * g (cell_at base cell) + g (cell_at base (cell + 1)) + 1) % 2 ^ 64 in
     away (cell_at base (cell + 1)) (number % 2 ^ 32) (put (cell_at base cell) (number / 2 ^ 32) g) a
@@ -120,6 +113,7 @@ one_away base regs (Log cell bits value) g a far =
     let small = mod_below (g (cell_at base cell)) (2 ^ bits) (pow_pos bits) in
     away (cell_at base cell) ((g (cell_at base cell) + 1) % 2 ^ 32) (put (cell_at base place) value g) a
     (far cell (omega arith, omega arith)) ∙ away (cell_at base place) value g a (far place (omega arith, omega arith))
+one_away base regs op g a far = away _ _ g a (far (cell_of op) (omega arith, omega arith))
 
 pub all_away : (base : ℕ) (regs : ℕ → ℕ) (ops : List Op) (g : ℕ → ℕ) (a : ℕ)
     → ((k : ℕ) → IsCellOf ops k → cell_at base k ≢ a) → update_all (cell_at base) regs ops g a ≡ g a
@@ -130,24 +124,20 @@ all_away base regs (op ∷ rest) g a far =
 
 -- whether a cell is worked on
 in_or_not : (op : Op) (k : ℕ) → IsCellIn op k ⊎ (IsCellIn op k → ⊥)
-in_or_not op k = by (cases_lt k (cell_of op)) (cases_lt k (cells_end op))
-  where
-    by : (k < cell_of op) ⊎ (cell_of op ≤ k) → (k < cells_end op) ⊎ (cells_end op ≤ k)
-        → IsCellIn op k ⊎ (IsCellIn op k → ⊥)
-    by (inl low) y = inr (λ h. omega (arith, h.0))
-    by (inr from) (inl below) = inl (from, below)
-    by (inr from) (inr past) = inr (λ h. omega (arith, h.1))
+in_or_not op k = elim (cases_lt k (cell_of op)) [
+  | inl low ↦ inr (λ h. omega (arith, h.0))
+  | inr from ↦ elim (cases_lt k (cells_end op)) [
+    | inl below ↦ inl (from, below)
+    | inr past ↦ inr (λ h. omega (arith, h.1))
+  ]
+]
 
 pub cell_or_not : (ops : List Op) (k : ℕ) → IsCellOf ops k ⊎ (IsCellOf ops k → ⊥)
 cell_or_not [] k = inr (λ h. h)
-cell_or_not (op ∷ rest) k = go (in_or_not op k) (cell_or_not rest k)
-  where
-    neither : (IsCellIn op k → ⊥) → (IsCellOf rest k → ⊥) → IsCellIn op k ⊎ IsCellOf rest k → ⊥
-    neither out none (inl h) = out h
-    neither out none (inr h) = none h
-
-    go : IsCellIn op k ⊎ (IsCellIn op k → ⊥) → IsCellOf rest k ⊎ (IsCellOf rest k → ⊥)
-        → (IsCellIn op k ⊎ IsCellOf rest k) ⊎ (IsCellIn op k ⊎ IsCellOf rest k → ⊥)
-    go (inl h) b = inl (inl h)
-    go (inr out) (inl h) = inl (inr h)
-    go (inr out) (inr none) = inr (neither out none)
+cell_or_not (op ∷ rest) k = elim (in_or_not op k) [
+  | inl h ↦ inl (inl h)
+  | inr out ↦ elim (cell_or_not rest k) [
+    | inl h ↦ inl (inr h)
+    | inr none ↦ inr (λ h. elim h [ inl i ↦ out i | inr j ↦ none j ])
+  ]
+]

@@ -30,51 +30,32 @@ if_one : (b : Bool) → (if b then 1 else 0) ≤ 1
 if_one b = grind arith
 
 module _ (counted : ℕ → Bool) where
-  abbrev any_from3 : Bool
-  any_from3 = any_of_word counted (kept_word 3) || any_of_word counted (kept_word 4)
+  abbrev any_below : ℕ → Bool
+  any_below zero = false
+  any_below (suc n) = any_of_word counted (kept_word n) || any_below n
 
-  abbrev any_from2 : Bool
-  any_from2 = any_of_word counted (kept_word 2) || any_from3
+  none_kept : (n : ℕ) → any_below n ≡ false → (k : ℕ) → k < n → any_of_word counted (kept_word k) ≡ false
+  none_kept zero e k few = absurd (omega arith)
+  none_kept (suc n) e k few =
+      let parts = or_parts (any_of_word counted (kept_word n)) (any_below n) e in
+      elim (equal_or_not k n) [
+        | inl same ↦ rw same parts.0
+        | inr other ↦ none_kept n parts.1 k (omega (arith, other))
+      ]
 
-  abbrev any_from1 : Bool
-  any_from1 = any_of_word counted (kept_word 1) || any_from2
-
-  abbrev any : Bool
-  any = any_of_word counted (kept_word 0) || any_from1
-
-  none_kept : any ≡ false → (n : ℕ) → n < 5 → any_of_word counted (kept_word n) ≡ false
-  none_kept e n few =
-      let after0 = or_parts (any_of_word counted (kept_word 0)) any_from1 e in
-      let after1 = or_parts (any_of_word counted (kept_word 1)) any_from2 after0.1 in
-      let after2 = or_parts (any_of_word counted (kept_word 2)) any_from3 after1.1 in
-      let after3 = or_parts (any_of_word counted (kept_word 3)) (any_of_word counted (kept_word 4)) after2.1 in
-      by n few after0.0 after1.0 after2.0 after3.0 after3.1
-    where
-      by : (n : ℕ) → n < 5 → any_of_word counted (kept_word 0) ≡ false → any_of_word counted (kept_word 1) ≡ false
-          → any_of_word counted (kept_word 2) ≡ false → any_of_word counted (kept_word 3) ≡ false
-          → any_of_word counted (kept_word 4) ≡ false → any_of_word counted (kept_word n) ≡ false
-      by zero few a b c d e = a
-      by (suc zero) few a b c d e = b
-      by (suc (suc zero)) few a b c d e = c
-      by (suc (suc (suc zero))) few a b c d e = d
-      by (suc (suc (suc (suc zero)))) few a b c d e = e
-      by (suc (suc (suc (suc (suc n))))) few a b c d e = absurd (omega arith)
-
-  any_none : ((n : ℕ) → n < 5 → any_of_word counted (kept_word n) ≡ false) → any ≡ false
-  any_none h =
-      or_from (any_of_word counted (kept_word 0)) any_from1 (h 0 (omega arith))
-      (or_from (any_of_word counted (kept_word 1)) any_from2 (h 1 (omega arith))
-      (or_from (any_of_word counted (kept_word 2)) any_from3 (h 2 (omega arith))
-      (or_from (any_of_word counted (kept_word 3)) (any_of_word counted (kept_word 4)) (h 3 (omega arith))
-      (h 4 (omega arith)))))
+  any_none : (n : ℕ) → ((k : ℕ) → k < n → any_of_word counted (kept_word k) ≡ false) → any_below n ≡ false
+  any_none zero h = refl
+  any_none (suc n) h =
+      or_from (any_of_word counted (kept_word n)) (any_below n) (h n (omega arith))
+      (any_none n (λ k few. h k (omega (arith, few))))
 
   pub cost_of_page : (cost : ℕ) × IsCost counted cost
   cost_of_page = (
-    if any then 1 else 0,
+    if any_below 5 then 1 else 0,
     record {
-      one = if_one any;
-      each = λ n few. if_below (any_of_word counted (kept_word n)) any (λ e. none_kept e n few);
-      none = λ h. ap (λ (b : Bool). if b then 1 else 0) (any_none h);
+      one = if_one (any_below 5);
+      each = λ n few. if_below (any_of_word counted (kept_word n)) (any_below 5) (λ e. none_kept 5 e n few);
+      none = λ h. ap (λ (b : Bool). if b then 1 else 0) (any_none 5 h);
     },
   )
 
@@ -114,10 +95,7 @@ module _ {s : State} {count : ℕ} {May : ℕ → Type 0} {counted : ℕ → Boo
       → WorksWithin s count May counted r want (n + length qs) (t + cost * length qs) (saved (register_of s) m qs g) codes
       (λ j. register_of s (r j))
   saves cost is k m [] {n} {t} {g} {codes} w picked page room stand =
-      subst (λ z. WorksWithin s count May counted r want z (t + cost * 0) g codes (λ j. register_of s (r j)))
-      (let e : n ≡ n + 0 = omega arith in e)
-      (subst (λ z. WorksWithin s count May counted r want n z g codes (λ j. register_of s (r j)))
-      (let e : t ≡ t + cost * 0 = omega arith in e) w)
+      let none : t + cost * 0 ≡ t = omega arith in rw none (as_many (let e : n ≡ n + 0 = omega arith in e) w)
   saves cost is k m (q ∷ qs) {n} {t} {g} {codes} w picked page room stand =
       let paid = is.each m page.0 in
       let one = st c (t + cost) q 0 (of_page (m + 2)) (kept_word m) (register_of s q) w (omega arith) stand.0
@@ -127,12 +105,7 @@ module _ {s : State} {count : ℕ} {May : ℕ → Type 0} {counted : ℕ → Boo
       let more = saves cost is (suc k) (suc m) qs one picked.2 page.2 (omega arith)
       (stand_at (code_of s.memory) (s.pc + 4 * n + 4) (s.pc + 4 * suc n) (numbered save (suc m) qs) stand.1
       (omega arith)) in
-      subst (λ z. WorksWithin s count May counted r want z (t + cost * suc (length qs))
-      (saved (register_of s) (suc m) qs (put (kept_word m) (register_of s q) g)) codes
-      (λ j. register_of s (r j))) (let e : suc n + length qs ≡ n + suc (length qs) = omega arith in e)
-      (subst (λ z. WorksWithin s count May counted r want (suc n + length qs) z
-      (saved (register_of s) (suc m) qs (put (kept_word m) (register_of s q) g)) codes
-      (λ j. register_of s (r j))) (one_more cost t (length qs)) more)
+      rw (← one_more cost t (length qs)) (as_many (let e : suc n + length qs ≡ n + suc (length qs) = omega arith in e) more)
 
   -- ---- and loaded after
   pub restores : (k m : ℕ) (qs : List ℕ) {n t : ℕ} {g : ℕ → ℕ} {codes : Codes} {f : ℕ → ℕ}

@@ -3,7 +3,7 @@ use Rattle.snippet_code.proofs.Common.{◌≡◌, ℕ, ◌+◌, ◌-◌, ◌/◌
 use Rattle.snippet_code.proofs.TopValue.{TopIsGreater, top_of}
 
 -- bit 31 of a number of 32 bits
-top_bit : (n : ℕ) → n < 2 ^ 32 → bit_at n 31 ≡ n / 2 ^ 31
+pub top_bit : (n : ℕ) → n < 2 ^ 32 → bit_at n 31 ≡ n / 2 ^ 31
 top_bit n l = omega arith
 
 -- the borrow
@@ -79,9 +79,6 @@ top_is_greater codes y c x lc lx = elim (cases_lt c x) [
       ap (λ n. wrapped (2 ^ 33 + c - (n + 0))) e ∙ omega arith
 ]
   where
-    d : ℕ
-    d = difference c x
-
     below : difference c x < 2 ^ 32
     below = omega arith
 

@@ -2,12 +2,10 @@
 use Rattle.snippet_code.proofs.Common.{◌≡◌, ◌≢◌, ℕ, zero, suc, ◌+◌, ◌-◌, ◌*◌, ◌/◌, ◌%◌, ◌^◌, ◌<◌, ◌≤◌, min, Bool, true, false, bit_and, Ok, refl, ap, sym, ◌∙◌, arith, cond_both, if◌then◌else◌, ◌==◌, nat_lt, pos, negsuc, w32, bit_at, nat_tests, and_le_l, bit_at_and, Codes, alu_of, codes_of, complement, wrapped, State, register_of, put, Count, cast_unsigned, nat_le, sum_overflows, cell_at, small, low}
 use Rattle.v8_decode.specs.declared.AluOp.TheVariants as ops
 use Rattle.v8_alu.specs.Numbers.{one_if}
+use Rattle.snippet_code.proofs.Tops.{top_bit}
 use Rattle.snippet_code.proofs.Working.{update_one}
 
 -- ---- numbers
-
-top_bit : (n : ℕ) → n < 2 ^ 32 → bit_at n 31 ≡ n / 2 ^ 31
-top_bit n l = omega arith
 
 -- the carry out of the low word, by its old and its new value
 pub carry_is : (x : ℕ) → x < 2 ^ 32 → bit_and x (complement (wrapped (x + 1))) / 2 ^ 31 ≡ (x + 1) / 2 ^ 32
@@ -34,26 +32,9 @@ low_word x y = omega arith
 pub shifted : (p bits : ℕ) → 1 ≤ bits → bits ≤ 16
     → wrapped (p * 2 ^ (wrapped (32 - bits) % 32)) / 2 ^ (wrapped (30 - bits) % 32) ≡ 4 * (p % 2 ^ bits)
 shifted p zero l h = absurd (omega arith)
-shifted p (suc zero) l h = omega arith
-shifted p (suc (suc zero)) l h = omega arith
-shifted p (suc (suc (suc zero))) l h = omega arith
-shifted p (suc (suc (suc (suc zero)))) l h = omega arith
-shifted p (suc (suc (suc (suc (suc zero))))) l h = omega arith
-shifted p (suc (suc (suc (suc (suc (suc zero)))))) l h = omega arith
-shifted p (suc (suc (suc (suc (suc (suc (suc zero))))))) l h = omega arith
-shifted p (suc (suc (suc (suc (suc (suc (suc (suc zero)))))))) l h = omega arith
-shifted p (suc (suc (suc (suc (suc (suc (suc (suc (suc zero))))))))) l h = omega arith
-shifted p (suc (suc (suc (suc (suc (suc (suc (suc (suc (suc zero)))))))))) l h = omega arith
-shifted p (suc (suc (suc (suc (suc (suc (suc (suc (suc (suc (suc zero))))))))))) l h = omega arith
-shifted p (suc (suc (suc (suc (suc (suc (suc (suc (suc (suc (suc (suc zero)))))))))))) l h = omega arith
-shifted p (suc (suc (suc (suc (suc (suc (suc (suc (suc (suc (suc (suc (suc zero))))))))))))) l h = omega arith
-shifted p (suc (suc (suc (suc (suc (suc (suc (suc (suc (suc (suc (suc (suc (suc zero)))))))))))))) l h = omega arith
-shifted p (suc (suc (suc (suc (suc (suc (suc (suc (suc (suc (suc (suc (suc (suc (suc zero))))))))))))))) l h =
-    omega arith
-shifted p (suc (suc (suc (suc (suc (suc (suc (suc (suc (suc (suc (suc (suc (suc (suc (suc zero)))))))))))))))) l h =
-    omega arith
 shifted p (suc (suc (suc (suc (suc (suc (suc (suc (suc (suc (suc (suc (suc (suc (suc (suc (suc n))))))))))))))))) l h =
     absurd (omega arith)
+shifted p bits l h = omega arith
 
 -- two words, whichever is put first
 pub put_swap : (a x b y : ℕ) (g : ℕ → ℕ) → a ≢ b → (k : ℕ) → put a x (put b y g) k ≡ put b y (put a x g) k

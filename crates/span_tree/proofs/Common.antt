@@ -3,7 +3,7 @@ pub use Rattle.std.proofs.Common.{[], add-one, ap, arith, Bool, cond, false, get
 pub use Rattle.std.specs.Prelude.{IfSome, if◌then◌else◌, min, nat_le, None, Option, Some, unwrap_or}
 pub use Rattle.cfg_blocks.proofs.Below.{get_or-below, length-below}
 pub use Rattle.cfg_blocks.specs.Blocks.{below, Blocks, end_of, last_word}
-pub use Rattle.cfg_normal.specs.Graph.{case_nodes, case_of, copied_edges, edges_of, Graph, has_cases, landing_at, landings_of, lands_of, once_onto, ways_out}
+pub use Rattle.cfg_normal.specs.Graph.{case_nodes, case_of, copied_edges, edges_of, Graph, has_cases, landing_at, landings_of, lands_of, once_onto}
 unfoldable pub use Rattle.cfg_normal.specs.Graph.{edges_in}
 pub use Rattle.cfg_normal.specs.Numbers.{is_node, node_number, node_numbers}
 pub use Rattle.cfg_normal.specs.Opens.{is_copied, jumps_in, Open, targets_in}
@@ -21,7 +21,7 @@ pub use Rattle.span_tree.specs.Links.{edge_at, links_of, no_edge}
 pub use Rattle.span_tree.specs.Private.{link_of}
 pub use Rattle.span_tree.specs.Ties.{rank_of, tie_by}
 pub use Rattle.span_tree.specs.Weights.{branch_target, is_between, is_in_loop, loops_at, weight_from, weights_of}
-pub use Rattle.std.proofs.lemmas.Bool.{cases_eq, cases_lt, cond_both, false≢true, le-ltb, lt-ltb}
+pub use Rattle.std.proofs.lemmas.Bool.{cases_Bool, cases_eq, cases_lt, cond_both, false≢true, lt-ltb}
 pub use Rattle.std.proofs.lemmas.Grind.{common_steps, flat_map-append}
 pub use Rattle.std.proofs.lemmas.List.{get_or-map, get_or-set_other, get_or-set_same, get_or_past, get_or_read, length-append, length-map, length-set, map-append}
 pub use Rattle.std.proofs.lemmas.List.Elements.{All-cons, All-from_get_or, All-get_or, All-map, All-nil, All-set, All-weaker, recursion_from_All}

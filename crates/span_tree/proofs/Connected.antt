@@ -1,6 +1,7 @@
 -- The flow graph as a plain one: the list of links is the same, and its edges join all nodes.
-use Rattle.span_tree.proofs.Common.{◌≡◌, ℕ, ◌+◌, ◌-◌, ◌<◌, ◌≤◌, ◌⊎◌, inl, inr, true, false, Bool, List, length, map, Some, refl, ap, sym, ◌∙◌, subst, arith, cases_lt, le-ltb, lt-ltb, length-map, All-from_get_or, All-get_or, All-map, All-weaker, recursion_from_All, NodeSet, IsLinked, plain_of, IsConnected, Link, Blocks, Edge, Node, Block, Landed, X, Open, is_copied, jumps_in, targets_in, Graph, edges_in, has_cases, lands_of, is_node, node_number, node_numbers, link_of, links_of, no_edge}
+use Rattle.span_tree.proofs.Common.{◌≡◌, ℕ, ◌+◌, ◌-◌, ◌<◌, ◌≤◌, ◌⊎◌, inl, inr, true, false, List, length, map, Some, refl, ap, sym, ◌∙◌, subst, arith, cases_lt, cases_Bool, lt-ltb, length-map, All-from_get_or, All-get_or, All-map, All-weaker, recursion_from_All, NodeSet, IsLinked, plain_of, IsConnected, Link, Blocks, Edge, Node, Block, Landed, X, Open, is_copied, jumps_in, targets_in, Graph, edges_in, has_cases, lands_of, is_node, node_number, node_numbers, link_of, links_of, no_edge}
 use Rattle.std.proofs.Math.ListN.{get_or-map}
+use Rattle.std.proofs.lemmas.Bool.Decides.{nat_tests}
 use Rattle.flows.specs.SpanningTrees.{NoneCrosses}
 use Rattle.cfg_normal.specs.Code.{IsEdgeIn, IsGraph, IsNodeIn}
 use Rattle.span_tree.proofs.Landings.{Each, block, cased, copy, first_of, landed_block, landed_copy, lands_plain, targets_some}
@@ -37,12 +38,7 @@ linked_as g n links is nodes are = rw (nodes, are) (linked g is)
 -- ---- the numbers of nodes are those that pass the test
 
 pub numbered : (g : Graph) (node : Node) → IsNodeIn g.blocks g.opens node → is_node g (node_number g node) ≡ true
-numbered g (Block block) h = rw (le-ltb (length g.blocks.firsts) block.0 (omega (arith, h))) refl
-numbered g (Landed block) h =
-    let n = length g.blocks.firsts in
-    let same : n + 1 + block.0 - (n + 1) ≡ block.0 = omega arith in
-    rw (lt-ltb n (n + 1 + block.0) (omega arith)) (ap (is_copied g.opens) same ∙ h.1)
-numbered g X h = rw (le-ltb (length g.blocks.firsts) (length g.blocks.firsts) (omega arith)) refl
+numbered g node h = grind (arith, nat_tests, h)
 
 -- ---- all nodes are joined
 
@@ -75,15 +71,14 @@ module _ (g : Graph) (is : IsGraph g) where
     landed_like X l quiet = refl
 
     block_like : (k : ℕ) → k < outside → s k ≡ s outside
-    block_like k l = by (jumps_in opens k) refl
-      where
-        by : (x : Bool) → jumps_in opens k ≡ x → s k ≡ s outside
-        by false e = landed_like (block k) l e
-        by true e =
-            let some = first_of (targets_in opens k)
-            (targets_some opens k e (recursion_from_All (λ (o : Open). 1 ≤ length o.targets) opens is.targets)) in
-            let c = cased b opens Joins all k l e some.first some.rest some.is in
-            c.1 ∙ landed_like (lands_of b opens (Some some.first)) c.0 (lands_plain b opens some.first)
+    block_like k l = elim (cases_Bool (jumps_in opens k)) [
+      | inr e ↦ landed_like (block k) l e
+      | inl e ↦
+          let some = first_of (targets_in opens k)
+          (targets_some opens k e (recursion_from_All (λ (o : Open). 1 ≤ length o.targets) opens is.targets)) in
+          let c = cased b opens Joins all k l e some.first some.rest some.is in
+          c.1 ∙ landed_like (lands_of b opens (Some some.first)) c.0 (lands_plain b opens some.first)
+    ]
 
     like_outside : (v : ℕ) → v < node_numbers g → is_node g v ≡ true → s v ≡ s outside
     like_outside v h node = by (cases_lt v outside) (cases_lt outside v)

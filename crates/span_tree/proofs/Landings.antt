@@ -1,6 +1,7 @@
 -- What holds of each edge of a flow graph holds of the landings at its nodes, and of an edge from each jump's block.
-use Rattle.span_tree.proofs.Common.{◌≡◌, ℕ, zero, suc, ◌<◌, ◌≤◌, Bool, true, false, List, [], ◌∷◌, ◌++◌, length, map, Some, inl, inr, refl, sym, subst, arith, if◌then◌else◌, AllByRecursion, filter, flat_map, list_any, cases_lt, cond_both, false≢true, flat_map-append, length-append, Blocks, below, Edge, Node, Block, Landed, Open, is_copied, jumps_in, targets_in, case_nodes, case_of, copied_edges, edges_in, edges_of, has_cases, landing_at, landings_of, lands_of, once_onto, ways_out}
+use Rattle.span_tree.proofs.Common.{◌≡◌, ℕ, zero, suc, ◌<◌, ◌≤◌, true, false, List, [], ◌∷◌, ◌++◌, length, map, Some, inl, inr, refl, subst, arith, if◌then◌else◌, AllByRecursion, filter, flat_map, list_any, cases_lt, cond_both, cases_Bool, false≢true, flat_map-append, length-append, Blocks, below, Edge, Node, Block, Landed, Open, is_copied, jumps_in, targets_in, case_nodes, case_of, copied_edges, edges_in, edges_of, has_cases, landing_at, landings_of, lands_of, once_onto}
 use Rattle.cfg_normal.specs.Nodes.{same_node}
+use Rattle.cfg_normal.specs.Opens.{compares_in}
 
 abbrev pub block : ℕ → Node
 block k = Block (record { 0 = k })
@@ -101,23 +102,17 @@ module _ (b : Blocks) (opens : List Open) (P : Edge → Type 0) (all : Each P (e
 
   -- at a block that no jump of an open switch ends
   pub landed_block : (k : ℕ) → k < length b.firsts → jumps_in opens k ≡ false → P (landing_at (block k))
-  landed_block k l quiet = by (jumps_in opens k) (is_copied opens k) quiet (landing_edges k l)
-    where
-      by : (j c : Bool) → j ≡ false
-          → Each Lands (if j then copy k ∷ [] else if c then block k ∷ copy k ∷ [] else block k ∷ []) → Lands (block k)
-      by true c e h = absurd (false≢true (sym e))
-      by false true e h = h.0
-      by false false e h = h.0
+  landed_block k l quiet = elim (cases_Bool (compares_in opens k)) [
+    | inl c ↦ (rw (quiet, c) at (landing_edges k l)).0
+    | inr c ↦ (rw (quiet, c) at (landing_edges k l)).0
+  ]
 
   -- at a landed copy
   pub landed_copy : (k : ℕ) → k < length b.firsts → is_copied opens k ≡ true → P (landing_at (copy k))
-  landed_copy k l is = by (jumps_in opens k) (is_copied opens k) is (landing_edges k l)
-    where
-      by : (j c : Bool) → c ≡ true
-          → Each Lands (if j then copy k ∷ [] else if c then block k ∷ copy k ∷ [] else block k ∷ []) → Lands (copy k)
-      by true c e h = h.0
-      by false true e h = h.1.0
-      by false false e h = absurd (false≢true e)
+  landed_copy k l is = elim (cases_Bool (jumps_in opens k)) [
+    | inl j ↦ (rw j at (landing_edges k l)).0
+    | inr j ↦ (rw (j, rw j at is) at (landing_edges k l)).1.0
+  ]
 
   -- from a jump's block, to where its first target lands
   abbrev Cases : ℕ → Node → Type 0
@@ -129,14 +124,5 @@ module _ (b : Blocks) (opens : List Open) (P : Edge → Type 0) (all : Each P (e
   pub cased : (k : ℕ) → k < length b.firsts → jumps_in opens k ≡ true → (word : ℕ) (words : List ℕ)
       → targets_in opens k ≡ word ∷ words → P (case_of b k (lands_of b opens (Some word)))
   cased k l jumps word words e =
-      (kept (Cases k) (lands word ∷ []) (map lands words)
-      (subst (λ (xs : List ℕ). Each (Cases k) (once_onto [] (map lands xs))) e nodes)).0
-    where
-      by : (j : Bool) → j ≡ true
-          → Each P (if j then map (case_of b k) (case_nodes b opens k) else ways_out b opens (block k) k)
-          → Each P (map (case_of b k) (case_nodes b opens k))
-      by true e h = h
-      by false e h = absurd (false≢true e)
-
-      nodes : Each (Cases k) (case_nodes b opens k)
-      nodes = of_map P (case_of b k) (case_nodes b opens k) (by (jumps_in opens k) jumps (own_edges k l))
+      let nodes = of_map P (case_of b k) (case_nodes b opens k) (rw jumps at (own_edges k l)) in
+      (kept (Cases k) (lands word ∷ []) (map lands words) (rw e at nodes)).0

@@ -1,5 +1,5 @@
 -- Cells that are given in the order of the counted edges.
-use Rattle.span_tree.proofs.Common.{◌≡◌, ℕ, zero, suc, ◌<◌, ◌≤◌, inl, inr, Bool, true, false, cond, List, length, map, refl, ap, sym, ◌∙◌, subst, arith, Option, Some, None, IfSome, unwrap_or, cases_lt, false≢true, get_or-map, get_or_past, length-map, EdgeSet, count_below, marked, below, get_or-below, length-below, AreNumbered, cell_at, cell_count, cell_of, has_cell}
+use Rattle.span_tree.proofs.Common.{◌≡◌, ℕ, zero, suc, ◌<◌, ◌≤◌, inl, inr, Bool, true, cond, List, length, map, refl, ap, sym, ◌∙◌, subst, arith, Option, Some, None, IfSome, unwrap_or, cases_lt, false≢true, get_or-map, get_or_past, length-map, EdgeSet, count_below, marked, below, get_or-below, length-below, AreNumbered, cell_at, cell_count, cell_of, has_cell}
 use Rattle.std.specs.Option.{is_some}
 use mir.Val.{bool_byte}
 
@@ -27,12 +27,10 @@ module _ (marks : List Bool) where
   some_is c n = grind arith
 
   cell_is : (e : ℕ) → cell_at cells e ≡ cell_of (marked marks) e
-  cell_is e = elim (cases_lt e (length marks)) [
-    | inl l ↦
-        get_or-map (cell_of (marked marks)) (below (length marks)) e 0 None (omega (arith, l, length-below (length marks)))
-        ∙ ap (cell_of (marked marks)) (get_or-below (length marks) e 0 l)
-    | inr l ↦ rw (get_or_past marks e false l) (get_or_past cells e None (omega (arith, l, length_is)))
-  ]
+  cell_is e =
+      let at = get_or-below (length marks) e 0 in
+      let past = get_or_past cells e None in
+      grind (arith, at, past, length_is, get_or-map, length-below, get_or_past)
 
   same : has_cell cells ≡ marked marks
   same = λ i e. (ap is_some (cell_is e) ∙ some_is (marked marks e) (count_below e (marked marks))) i
@@ -56,9 +54,7 @@ module _ (marks : List Bool) (given : List (Option ℕ)) (n : ℕ) (all : n ≡ 
   numbered_given = subst AreNumbered (sym whole) (numbered marks)
 
   pub count_given : (count : ℕ) → count ≡ count_below n (marked marks) → count ≡ cell_count given
-  count_given count e =
-      e ∙ ap (λ (k : ℕ). count_below k (marked marks)) (all ∙ sym length_given)
-      ∙ ap (count_below (length given)) (sym same_given)
+  count_given count e = rw (length_given, same_given, ← all) e
 
 -- ---- a cell is below their number
 

@@ -1,5 +1,5 @@
 -- What an instruction does to the registers is what the table says.
-use Rattle.switch_runs.proofs.Common.{◌≡◌, ℕ, suc, ◌+◌, ◌%◌, ◌^◌, ◌<◌, Bool, true, false, ◌&&◌, Option, Some, None, Result, Ok, Err, List, length, refl, ap, ◌∙◌, arith, if◌then◌else◌, ◌==◌, nat_lt, Width, byte_len, w8, w32, from_be_bytes, ltb-true, nat_tests, Words, word_at, IsText, Op2, Instr, Memory, bytes_at, with_bytes, register_set, length-register_set, Codes, alu_of, keeping, result_of, wrapped, Slot, NoSlot, Ending, Trap, State, operand_of, register_of, sum_of, branched, branch_step, call_step, ended, jump_step, next, unless_couple, exchange_step, ldstub_step, load_size, load_step, on_bytes, on_memory, store_size, store_step, stored, swap_step, word_of, act, alu_step, register_in-range, Value, Unknown, Place, after, all_unknown, loaded_at, operand_in, put, sum_in, value_in, sets_codes, HoldsText}
+use Rattle.switch_runs.proofs.Common.{◌≡◌, ℕ, suc, ◌+◌, ◌%◌, ◌^◌, ◌<◌, Bool, true, false, ◌&&◌, Some, None, Result, Ok, Err, List, length, refl, ap, ◌∙◌, arith, ◌==◌, nat_lt, ltb-true, nat_tests, Words, word_at, IsText, Op2, Instr, bytes_at, register_set, length-register_set, Codes, alu_of, keeping, result_of, wrapped, Ending, State, operand_of, register_of, sum_of, branch_step, call_step, ended, jump_step, ldstub_step, load_step, store_step, swap_step, word_of, act, alu_step, register_in-range, Value, Unknown, Place, after, all_unknown, loaded_at, operand_in, put, sum_in, value_in, sets_codes, HoldsText}
 use Rattle.v8_decode.specs.declared.Op2.TheVariants as o
 use Rattle.v8_decode.specs.declared.AluOp.TheVariants as ops
 use Rattle.v8_decode.specs.declared.LoadKind.TheVariants as loads
@@ -9,7 +9,6 @@ use Rattle.v8_windows.specs.Code.{AreRegisters}
 use Rattle.v8_alu.specs.declared.AluOut.{AluOut}
 use Rattle.v8_alu.specs.declared.AluTrap.{AluTrap}
 use Rattle.v8_alu.specs.declared.AluTrap.TheVariants.{DivZero}
-use Rattle.v8_step.specs.Traps.{data_access_exception}
 use Rattle.switch_runs.proofs.Meaning.{AllMean, Meaning, all_with, length-put, none_known, put_means}
 use Rattle.switch_runs.proofs.Sums.{either_means, plus_means, shifted_means}
 use Rattle.switch_runs.proofs.Held.{read_text}
@@ -34,24 +33,6 @@ module _ (text : Words) (is_text : IsText text) (x : ℕ) (K : Codes → Type 0)
   -- they do if the run goes on
   abbrev Good : List Value → State → Type 0
   Good values t = t.ending ≡ None → Holds values t
-
-  good_ended : (values : List Value) (s : State) (d : Ending) → Good values (ended s d)
-  good_ended values s d e = absurd (cc)
-
-  good_if : (values : List Value) (b : Bool) (s t : State) → Good values s → Good values t
-      → Good values (if b then s else t)
-  good_if values true s t g h = g
-  good_if values false s t g h = h
-
-  good_bytes : (values : List Value) (s : State) (o : Option (List ℕ)) (f : List ℕ → State)
-      → ((bytes : List ℕ) → o ≡ Some bytes → Good values (f bytes)) → Good values (on_bytes s o f)
-  good_bytes values s None f h = good_ended values s (Trap data_access_exception)
-  good_bytes values s (Some bytes) f h = h bytes refl
-
-  good_memory : (values : List Value) (s : State) (d : Ending) (o : Option Memory) (f : State → State)
-      → ((n : Memory) → Good values (f (record s { memory = n }))) → Good values (on_memory s d o f)
-  good_memory values s d None f h = good_ended values s d
-  good_memory values s d (Some n) f h = h n
 
   good_unknown : (t : State) → Good all_unknown t
   good_unknown t e = none_known text x (K t.codes) t.registers t.window
@@ -106,15 +87,6 @@ module _ (text : Words) (is_text : IsText text) (x : ℕ) (K : Codes → Type 0)
 
     -- ---- loads
 
-    -- of which nothing is known
-    good_exchange : (width : Width) (rd a : ℕ) (new : List ℕ) → rd < 32
-        → Good (put values rd Unknown) (exchange_step s width rd a new)
-    good_exchange width rd a new l =
-        good_if (put values rd Unknown) (a % byte_len width == 0) _ _
-        (good_bytes (put values rd Unknown) s (bytes_at s.memory a (byte_len width)) _ (λ old e.
-        good_memory (put values rd Unknown) s (Trap data_access_exception) (with_bytes s.memory a new) _
-        (λ n live. written rd Unknown (from_be_bytes width old) l tt))) (good_ended _ s _)
-
     loaded_means : (v : Value) (a : ℕ) (bytes : List ℕ) → HoldsText text s.memory
         → Meaning text x (K s.codes) v a → bytes_at s.memory a 4 ≡ Some bytes
         → Meaning text x (K s.codes) (loaded_at v) (word_of bytes)
@@ -124,25 +96,14 @@ module _ (text : Words) (is_text : IsText text) (x : ℕ) (K : Codes → Type 0)
     )
     loaded_means _ a bytes holds m e = tt
 
-    -- ---- transfers
-
-    good_slot : (after : List Value) (slot : Slot) (t : State) → Good after t → Good after (unless_couple slot s t)
-    good_slot after NoSlot t g = g
-    good_slot after _ t g = good_ended after s _
-
-    good_branch : (taken always annul : Bool) (target : ℕ) → Good values (branched taken always annul s target)
-    good_branch true true true target e = h
-    good_branch false always true target e = h
-    good_branch _ _ _ target e = h
-
     -- ---- every instruction
 
     pub acts : (instr : Instr) → is_in_range instr ≡ true → has_even_pair instr ≡ true → HoldsText text s.memory
         → ((k : Codes) → sets_codes instr ≡ true → K s.codes → K k) → Good (after values instr) (act s instr)
     unfolding act after alu_of alu_step load_step store_step ldstub_step swap_step branch_step call_step jump_step
     acts (i.Sethi rd imm22) r p t k = λ e. written rd _ _ (ltb-true rd 32 r) refl
-    acts (i.Branch cond annul disp22) r p t k = good_slot _ s.slot _ (good_branch _ _ _ _)
-    acts (i.Call disp30) r p t k = good_slot _ s.slot _ (λ e. written 15 Unknown _ (omega arith) tt)
+    acts (i.Call disp30) r p t k = λ e.
+        let set = written 15 Unknown s.pc (omega arith) tt in grind (arith, set)
     acts (i.Alu ops.ADD false rd rs1 op2) r p t k = λ e.
         let q = operands rd rs1 op2 r in
         written rd _ _ q.target
@@ -162,35 +123,24 @@ module _ (text : Words) (is_text : IsText text) (x : ℕ) (K : Codes → Type 0)
         good_alu cc rd (result_of op (register_of s rs1) (operand_of s op2) s.codes s.y)
         (operands rd rs1 op2 r).target k
     acts (i.ReadY rd) r p t k = λ e. written rd Unknown _ (ltb-true rd 32 r) tt
-    acts (i.WriteY rs1 op2) r p t k = λ e. h
-    acts (i.Jmpl rd rs1 op2) r p t k =
-        good_slot _ s.slot _ (good_if _ (sum_of s rs1 op2 % 4 == 0) _ _
-        (λ e. written rd Unknown _ (operands rd rs1 op2 r).target tt) (good_ended _ s _))
+    acts (i.Jmpl rd rs1 op2) r p t k = λ e.
+        let set = written rd Unknown s.pc (operands rd rs1 op2 r).target tt in grind (arith, set)
     acts (i.Ticc cond rs1 op2) r p t k = good_unknown (act s (i.Ticc cond rs1 op2))
-    acts (i.Flush rs1 op2) r p t k = λ e. h
-    acts i.Stbar r p t k = λ e. h
     acts (i.Save rd rs1 op2) r p t k = good_unknown (act s (i.Save rd rs1 op2))
     acts (i.Restore rd rs1 op2) r p t k = good_unknown (act s (i.Restore rd rs1 op2))
-    acts (i.Load loads.LD rd rs1 op2) r p t k =
+    acts (i.Load loads.LD rd rs1 op2) r p t k = λ e.
         let q = operands rd rs1 op2 r in
-        good_if _ (sum_of s rs1 op2 % 4 == 0) _ _
-        (good_bytes _ s (bytes_at s.memory (sum_of s rs1 op2) 4) _ (λ bytes at e.
+        let set = λ (bytes : List ℕ) (at : bytes_at s.memory (sum_of s rs1 op2) 4 ≡ Some bytes).
         written rd _ _ q.target
-        (loaded_means (sum_in values rs1 op2) (sum_of s rs1 op2) bytes t (sum_means rs1 op2 q.first q.second) at)))
-        (good_ended _ s _)
-    acts (i.Load loads.LDD rd rs1 op2) r p t k =
+        (loaded_means (sum_in values rs1 op2) (sum_of s rs1 op2) bytes t (sum_means rs1 op2 q.first q.second) at) in
+        grind (arith, set)
+    acts (i.Load loads.LDD rd rs1 op2) r p t k = λ e.
         let q = operands rd rs1 op2 r in
-        good_if _ (sum_of s rs1 op2 % 8 == 0) _ _
-        (good_bytes _ s (bytes_at s.memory (sum_of s rs1 op2) 8) _ (λ bytes at e.
-        good_pair rd _ _ q.target (pair_below rd q.target p))) (good_ended _ s _)
-    acts (i.Load kind rd rs1 op2) r p t k =
-        good_if _ (sum_of s rs1 op2 % load_size kind == 0) _ _
-        (good_bytes _ s (bytes_at s.memory (sum_of s rs1 op2) (load_size kind)) _ (λ bytes at e.
-        written rd Unknown _ (operands rd rs1 op2 r).target tt)) (good_ended _ s _)
-    acts (i.Store kind rd rs1 op2) r p t k =
-        good_if values (sum_of s rs1 op2 % store_size kind == 0) _ _
-        (good_memory values s (Trap data_access_exception)
-        (with_bytes s.memory (sum_of s rs1 op2) (stored s kind rd)) next (λ n e. h)) (good_ended values s _)
-    acts (i.Ldstub rd rs1 op2) r p t k = good_exchange w8 rd _ _ (operands rd rs1 op2 r).target
-    acts (i.Swap rd rs1 op2) r p t k = good_exchange w32 rd _ _ (operands rd rs1 op2 r).target
-    acts _ r p t k = good_ended values s _
+        let set = λ (n m : ℕ). good_pair rd n m q.target (pair_below rd q.target p) in grind (arith, set)
+    acts (i.Load kind rd rs1 op2) r p t k = λ e.
+        let set = λ (v : ℕ). written rd Unknown v (operands rd rs1 op2 r).target tt in grind (arith, set)
+    acts (i.Ldstub rd rs1 op2) r p t k = λ e.
+        let set = λ (v : ℕ). written rd Unknown v (operands rd rs1 op2 r).target tt in grind (arith, set)
+    acts (i.Swap rd rs1 op2) r p t k = λ e.
+        let set = λ (v : ℕ). written rd Unknown v (operands rd rs1 op2 r).target tt in grind (arith, set)
+    acts _ r p t k = λ e. grind (arith, h)

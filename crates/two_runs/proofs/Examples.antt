@@ -1,14 +1,16 @@
 -- Visits, trails and refusals of small runs: they compute.
 use Rattle.std.specs.Prelude.{[], ◌∷◌, true, false, ℕ, ◌≡◌, Some, refl, None, ◌++◌}
-use Rattle.v8_decode.specs.Words.{decode_of, arithmetic}
+use Rattle.v8_decode.specs.Words.{decode_of, arithmetic, memory as memory_row}
 use Rattle.v8_alu.specs.Alu.{alu_of}
 use Rattle.v8_alu.specs.Conditions.{holds_of}
 use Rattle.notes.specs.Format.{Notes}
-use Rattle.v8_memory.specs.Regions.{Region, fetch_of, bytes_at}
+use Rattle.v8_memory.specs.Regions.{Region, fetch_of, bytes_at, with_bytes}
 use Rattle.v8_memory.specs.Segments.{empty_heap}
 use Rattle.v8_step.specs.Run.{first_state, zeros}
 use Rattle.v8_step.specs.State.{State}
-use Rattle.v8_step.specs.declared.Ending.TheVariants.{Couple}
+use Rattle.v8_step.specs.declared.Ending.TheVariants.{Couple, Trap, Window}
+use Rattle.v8_step.specs.Accesses.{load_step}
+use Rattle.v8_step.specs.WindowMoves.{restore_step, save_step}
 use Rattle.v8_step.specs.Calls.{system_call, trap_step, succeeds}
 use Rattle.v8_step.specs.Step.{act, alu_step, step_of}
 use Rattle.two_runs.specs.Visits.{visit_of, own_trail}
@@ -94,3 +96,45 @@ unmapped_write = (refl, refl)
 mapped_write : step_of (at_write 0x10054) ≡ succeeds 1 (at_write 0x10054)
 unfolding decode_of arithmetic step_of act system_call trap_step holds_of fetch_of bytes_at
 mapped_write = refl
+
+-- A text whose first word is refused where %g1 is 0, the second where the frame's window is at 0, and the third where all
+-- windows are in use, and the oldest is at 0:
+--   ld [%g1],%g2; restore; save
+abbrev accesses : Region
+accesses = record text {
+  bytes = 0xc4 ∷ 0x00 ∷ 0x40 ∷ 0x00 ∷ 0x81 ∷ 0xe8 ∷ 0x00 ∷ 0x00 ∷ 0x81 ∷ 0xe0 ∷ 0x00 ∷ 0x00 ∷ [];
+}
+
+abbrev about : ℕ → State
+about pc = first_state (record { heap = empty_heap; regions = accesses ∷ [] }) pc 0 []
+
+-- trap 9
+unmapped_load : (step_of (about 0x10054)).ending ≡ Some (Trap 9)
+unfolding decode_of memory_row step_of act load_step fetch_of bytes_at
+unmapped_load = refl
+
+load_refused : is_refusal (step_of (about 0x10054)).ending ≡ true
+unfolding decode_of memory_row step_of act load_step fetch_of bytes_at
+load_refused = refl
+
+mapped_load : is_refusal (step_of (record (about 0x10054) { registers = 0 ∷ 0x10054 ∷ zeros 134 })).ending ≡ false
+unfolding decode_of memory_row step_of act load_step fetch_of bytes_at
+mapped_load = refl
+
+-- a window that is loaded, and one that is saved
+unmapped_window : (step_of (about 0x10058)).ending ≡ Some Window
+unfolding decode_of arithmetic step_of act restore_step fetch_of bytes_at
+unmapped_window = refl
+
+window_refused : is_refusal (step_of (about 0x10058)).ending ≡ true
+unfolding decode_of arithmetic step_of act restore_step fetch_of bytes_at
+window_refused = refl
+
+unmapped_save : is_refusal (step_of (record (about 0x1005c) { valid = 7 })).ending ≡ true
+unfolding decode_of arithmetic step_of act save_step fetch_of with_bytes
+unmapped_save = refl
+
+-- with a window that is free none is saved
+free_window : is_refusal (step_of (about 0x1005c)).ending ≡ false
+unfolding decode_of arithmetic step_of act save_step fetch_of with_bytes
+free_window = refl

@@ -1,13 +1,10 @@
 pub mod Common
-pub mod AccessesAlike
 pub mod Alike
 pub mod Follows
-pub mod JudgedAlike
 pub mod Outside
-pub mod Puts
 pub mod Reading
-pub mod RegistersAlike
 pub mod Stays
 pub mod Twins
 pub mod Unmapped
+pub mod Unread
 pub mod Examples

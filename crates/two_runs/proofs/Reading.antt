@@ -1,5 +1,5 @@
 -- States that agree on the parts that are read agree on the values read, and the same write leaves them so.
-use Rattle.two_runs.proofs.Common.{◌≡◌, ℕ, zero, suc, ◌⊎◌, inl, inr, List, [], ◌∷◌, ◌++◌, length, get_or, set, refl, ap, sym, ◌∙◌, arith, slice_index, Op2, Instr, Reg, reg, op2_parts, Span, place_of, register_set, Ending, State, register_of, operand_of, sum_of, ended, StateItem, Register, Codes, YRegister, IsAmong, AreSameAt, IsSameWorld, AreSameAfter, AgreeOn}
+use Rattle.two_runs.proofs.Common.{◌≡◌, ℕ, zero, suc, ◌⊎◌, inl, inr, List, [], ◌∷◌, ◌++◌, length, get_or, set, refl, ap, ◌∙◌, arith, slice_index, Op2, Reg, reg, op2_parts, place_of, register_set, State, register_of, operand_of, sum_of, Register, IsAmong, AreSameAt, AgreeOn}
 use Rattle.std.proofs.lemmas.Grind.{common_steps}
 use Rattle.v8_decode.specs.declared.Op2.TheVariants as o
 use Rattle.v8_decode.specs.declared.Part.{Part}
@@ -11,10 +11,6 @@ same_first (p ∷ ps) qs s t h = (h.0, same_first ps qs s t h.1)
 pub same_rest : (ps qs : List Part) (s t : State) → AreSameAt (ps ++ qs) s t → AreSameAt qs s t
 same_rest [] qs s t h = h
 same_rest (p ∷ ps) qs s t h = same_rest ps qs s t h.1
-
-pub same_assoc : (ps qs rs : List Part) (s t : State) → AreSameAt (ps ++ qs ++ rs) s t → AreSameAt (ps ++ (qs ++ rs)) s t
-same_assoc [] qs rs s t h = h
-same_assoc (p ∷ ps) qs rs s t h = (h.0, same_assoc ps qs rs s t h.1)
 
 pub same_register : (r : ℕ) (s t : State) → s.window ≡ t.window → AreSameAt (reg r) s t
     → register_of s r ≡ register_of t r
@@ -50,37 +46,3 @@ place_one rs qs w zero v n e (inr h) = h
 place_one rs qs w (suc r) v n e (inl (inl h)) = set_alike rs qs _ n v e (inl (cc))
 place_one rs qs w (suc r) v n e (inl (inr h)) = absurd h
 place_one rs qs w (suc r) v n e (inr h) = set_alike rs qs _ n v e (inr h)
-
-pub among_split : (item : StateItem) (w : ℕ) (ps qs : List Part) → IsAmong item w (ps ++ qs)
-    → IsAmong item w ps ⊎ IsAmong item w qs
-among_split item w [] qs h = inr h
-among_split item w (p ∷ ps) qs (inl e) = inl (inl e)
-among_split item w (p ∷ ps) qs (inr h) =
-    elim (among_split item w ps qs h) [ inl y ↦ inl (inr y) | inr y ↦ inr y ]
-
-pub among_assoc : (item : StateItem) (w : ℕ) (ps qs rs : List Part) → IsAmong item w (ps ++ qs ++ rs)
-    → IsAmong item w (ps ++ (qs ++ rs))
-among_assoc item w [] qs rs h = h
-among_assoc item w (p ∷ ps) qs rs (inl e) = inl e
-among_assoc item w (p ∷ ps) qs rs (inr h) = inr (among_assoc item w ps qs rs h)
-
--- a register names neither the codes nor Y
-pub no_codes : (w r : ℕ) → IsAmong Codes w (reg r) → ⊥
-no_codes w r h = grind arith
-
-pub no_y : (w r : ℕ) → IsAmong YRegister w (reg r) → ⊥
-no_y w r h = grind arith
-
--- ---- states that end alike
-
-pub ended_alike : (pages : List Span) (instr : Instr) (s t : State) (d : Ending) → IsSameWorld pages s t
-    → AreSameAfter pages instr s t (ended s d) (ended t d)
-ended_alike pages instr s t d h = record {
-  ending = refl;
-  world = record { window = h.window; valid = h.valid; input = h.input; memory = h.memory; registers = h.registers };
-  items = λ n. absurd (cc);
-}
-
-pub same_lengths : (rs qs rs' qs' : List ℕ) → length rs ≡ length qs → length rs' ≡ length rs
-    → length qs' ≡ length qs → length rs' ≡ length qs'
-same_lengths rs qs rs' qs' e f g = f ∙ e ∙ sym g

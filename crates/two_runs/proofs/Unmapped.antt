@@ -1,17 +1,19 @@
 -- What isn't mapped is touched by no step of which nothing is refused.
-use Rattle.two_runs.proofs.Common.{◌≡◌, ℕ, zero, suc, ◌+◌, ◌-◌, ◌%◌, ◌<◌, ◌≤◌, ◌⊎◌, inl, inr, Bool, true, false, ◌&&◌, Option, Some, None, List, [], ◌∷◌, ◌++◌, length, take, map, refl, ap, sym, ◌∙◌, subst, arith, if◌then◌else◌, ◌==◌, nat_le, Width, byte_len, w8, w32, filter, find, option_map, and_parts, cases_Bool, cases_eq, cond_both, leb-true, nat_tests, Instr, decode_of, Memory, Region, covers, region_at, read_region, bytes_at, changed, written, all_written, write_region, with_bytes, if_allowed, is_code, code_of, word_in, fetch_of, is_heap_end, with_heap_end, buffer_written, buffer_read, Span, IsApart, IsApartFromAll, AllApart, span_of, frame_bytes, frame_pointer, length-frame_bytes, holds_of, Ending, Exit, Trap, Window, State, register_of, sum_of, instruction_access_exception, flush_windows, call_system, trap_instruction, data_access_exception, EBADF, EFAULT, ENOSYS, next, ended, trapped, load_size, store_size, stored, on_bytes, on_memory, load_step, store_step, exchange_step, ldstub_step, swap_step, oldest_window, save_address, saved_memory, frame_read, spill_many, fill_from, leave, save_step, restore_step, is_output, read_into, write_from, heap_call, refuses, system_call, system_step, trap_step, buffer_span, judged_by_call, frame_span, saved_span, judged_after, judged_by_spills, judged_by, act, on_word, step_of, trap_number, unless_ended, run, kept_act, length-stored, live_step, stays_ended}
+use Rattle.two_runs.proofs.Common.{◌≡◌, ℕ, zero, suc, ◌+◌, ◌-◌, ◌<◌, ◌≤◌, ◌⊎◌, inl, inr, true, false, ◌&&◌, Option, Some, None, List, [], ◌∷◌, ◌++◌, length, take, map, refl, ap, sym, ◌∙◌, subst, arith, ◌==◌, nat_le, filter, find, and_parts, cases_Bool, cases_eq, cond_both, leb-true, nat_tests, Instr, decode_of, Memory, Region, covers, region_at, bytes_at, changed, written, all_written, with_bytes, is_code, fetch_of, is_heap_end, with_heap_end, buffer_written, buffer_read, Span, IsApart, IsApartFromAll, AllApart, span_of, frame_bytes, frame_pointer, length-frame_bytes, Ending, Trap, State, register_of, sum_of, instruction_access_exception, call_system, EFAULT, load_size, store_size, stored, load_step, store_step, ldstub_step, swap_step, oldest_window, save_address, spill_many, save_step, restore_step, refuses, system_call, trap_step, buffer_span, saved_span, judged_by_spills, judged_by, judged_by_call, act, on_word, step_of, trap_number, unless_ended, run, kept_act, length-stored, live_step, stays_ended, part_of, option_map}
+use Rattle.std.proofs.Common.{IfSome}
+use Rattle.v8_step.specs.Judged.{judged_by_trap}
 use Rattle.v8_decode.specs.declared.Instr.TheVariants as i
 use Rattle.v8_memory.specs.Segments.{heap_start, heap_room}
 use Rattle.v8_memory.proofs.Apart.{spans_stay}
 use Rattle.v8_step.proofs.Kept.{none_near}
 use Rattle.two_runs.specs.Needed.{IsUntouched, instr_at, judged_in}
-use Rattle.two_runs.specs.Code.{GrantedIsUntouched, IsRefused, IsUnmapped, IsUntouchedWhereRefused, UnmappedIsUntouched}
-use Rattle.two_runs.specs.Refused.{IsFaulted, IsGranted, calls_by, calls_on_word, is_refusal}
+use Rattle.two_runs.specs.Code.{AreHigh, GrantedIsUntouched, IsUnmapped, UnmappedIsUntouched}
+use Rattle.two_runs.specs.Refused.{IsFaulted, IsGranted, IsNoRoom, IsRefused, IsUntouchedWhereRefused, calls_by, calls_on_word, is_refusal}
 use Rattle.two_runs.proofs.Stays.{step_stays}
 
 -- ---- what a region has is apart from what is apart from it
 
-span : ℕ → ℕ → Span
+abbrev span : ℕ → ℕ → Span
 span from count = record { from = from; count = count }
 
 covered : (p : Span) (r : Region) (a c : ℕ) → covers a c r ≡ true → IsApart p (span_of r)
@@ -46,60 +48,31 @@ module _ (pages : List Span) where
 
   -- ---- what is found is apart
 
-  found : (rs : List Region) (a c : ℕ) (q : Region) → AllApart pages (map span_of rs) → find (covers a c) rs ≡ Some q
-      → IsApartFromAll pages (record { from = a; count = c })
-  found [] a c q apart is = absurd (cc)
-  found (r ∷ rs) a c q apart is = elim (cases_Bool (covers a c r)) [
-    | inl has ↦ covered_all pages r a c has apart.0
-    | inr has ↦ found rs a c q apart.1 (rw has at is)
-  ]
+  found : (rs : List Region) (a c : ℕ) → AllApart pages (map span_of rs)
+      → IfSome (find (covers a c) rs) (λ _. IsApartFromAll pages (span a c))
+  found [] a c apart = tt
+  found (r ∷ rs) a c apart = grind (arith, covered_all pages r a c, found rs a c)
 
-  found_at : (m : Memory) (a c : ℕ) (q : Region) → Unmapped m → region_at m a c ≡ Some q
-      → IsApartFromAll pages (record { from = a; count = c })
-  found_at m a c q unmapped is = elim (cases_Bool (covers a c m.heap)) [
-    | inl has ↦ covered_all pages (record m.heap { start = heap_start; size = heap_room }) a c (wider has) unmapped.apart.0
-    | inr has ↦ found m.regions a c q unmapped.apart.1 (rw has at is)
-  ]
+  found_at : (m : Memory) (a c : ℕ) → Unmapped m → IfSome (region_at m a c) (λ _. IsApartFromAll pages (span a c))
+  found_at m a c unmapped = cond_both (covers a c m.heap) _ _ (λ o. IfSome o (λ _. IsApartFromAll pages (span a c)))
+      (λ has. covered_all pages (record m.heap { start = heap_start; size = heap_room }) a c (wider has) unmapped.apart.0)
+      (λ _. found m.regions a c unmapped.apart.1)
     where
       wider : covers a c m.heap ≡ true → covers a c (record m.heap { start = heap_start; size = heap_room }) ≡ true
       wider has = let start = unmapped.start in let room = unmapped.room in grind (arith, nat_tests)
 
-  found_code : (rs : List Region) (a : ℕ) (q : Region) → AllApart pages (map span_of rs)
-      → find (covers a 4) (filter is_code rs) ≡ Some q → IsApartFromAll pages (record { from = a; count = 4 })
-  found_code [] a q apart is = absurd (cc)
-  found_code (r ∷ rs) a q apart is = elim (cases_Bool (is_code r)) [
-    | inl code ↦ first (found_code rs a q apart.1) (rw code at is)
-    | inr code ↦ found_code rs a q apart.1 (rw code at is)
-  ]
-    where
-      first : (find (covers a 4) (filter is_code rs) ≡ Some q → IsApartFromAll pages (record { from = a; count = 4 }))
-          → find (covers a 4) (r ∷ filter is_code rs) ≡ Some q → IsApartFromAll pages (record { from = a; count = 4 })
-      first rest is = elim (cases_Bool (covers a 4 r)) [
-        | inl has ↦ covered_all pages r a 4 has apart.0
-        | inr has ↦ rest (rw has at is)
-      ]
+  found_code : (rs : List Region) (a : ℕ) → AllApart pages (map span_of rs)
+      → IfSome (find (covers a 4) (filter is_code rs)) (λ _. IsApartFromAll pages (span a 4))
+  found_code [] a apart = tt
+  found_code (r ∷ rs) a apart = grind (arith, covered_all pages r a 4, found_code rs a)
 
-  fetched : (m : Memory) (a word : ℕ) → Unmapped m → fetch_of m a ≡ Some word
-      → IsApartFromAll pages (record { from = a; count = 1 })
+  fetched : (m : Memory) (a : ℕ) → Unmapped m → IfSome (fetch_of m a) (λ _. IsApartFromAll pages (span a 1))
   unfolding fetch_of
-  fetched m a word unmapped is = by (a % 4 == 0) (find (covers a 4) (code_of m)) refl is
-    where
-      by : (b : Bool) (o : Option Region) → find (covers a 4) (code_of m) ≡ o
-          → (if b then option_map (word_in a) o else None) ≡ Some word
-          → IsApartFromAll pages (record { from = a; count = 1 })
-      by true (Some q) at is = narrow_all pages a (found_code m.regions a q unmapped.apart.1 at)
-      by true None at is = absurd (cc)
-      by false o at is = absurd (cc)
+  fetched m a unmapped = grind (arith, found_code m.regions a, narrow_all pages a)
 
-  read : (m : Memory) (a c : ℕ) (bytes : List ℕ) → Unmapped m → bytes_at m a c ≡ Some bytes
-      → IsApartFromAll pages (record { from = a; count = c })
+  reads : (m : Memory) (a c : ℕ) → Unmapped m → IfSome (bytes_at m a c) (λ _. IsApartFromAll pages (span a c))
   unfolding bytes_at
-  read m a c bytes unmapped is = by (region_at m a c) refl is
-    where
-      by : (o : Option Region) → region_at m a c ≡ o → read_region a c o ≡ Some bytes
-          → IsApartFromAll pages (record { from = a; count = c })
-      by None at is = absurd (cc)
-      by (Some q) at is = found_at m a c q unmapped at
+  reads m a c unmapped = grind (arith, found_at m a c unmapped)
 
   -- ---- what is written stays unmapped
 
@@ -112,28 +85,14 @@ module _ (pages : List Span) where
         apart = rw (spans_stay a bs m.regions) unmapped.apart;
       }
 
-  record IsDone (m n : Memory) (a c : ℕ) : Type 0 where
-    apart : IsApartFromAll pages (record { from = a; count = c })
-    unmapped : Unmapped n
+  abbrev IfDone : ℕ → ℕ → Option Memory → Type 0
+  IfDone a c None = Unit {0}
+  IfDone a c (Some n) = IsApartFromAll pages (span a c) × Unmapped n
 
-  wrote : (m n : Memory) (a : ℕ) (bs : List ℕ) → Unmapped m → with_bytes m a bs ≡ Some n → IsDone m n a (length bs)
+  writes : (m : Memory) (a : ℕ) (bs : List ℕ) (c : ℕ) → length bs ≡ c → Unmapped m → IfDone a c (with_bytes m a bs)
   unfolding with_bytes
-  wrote m n a bs unmapped is = by (region_at m a (length bs)) refl is
-    where
-      allowed : (q : Region) (b : Bool) → region_at m a (length bs) ≡ Some q
-          → if_allowed b (all_written a bs m) ≡ Some n → IsDone m n a (length bs)
-      allowed q false at is = absurd (cc)
-      allowed q true at is =
-          let same : all_written a bs m ≡ n = cc in
-          record {
-            apart = found_at m a (length bs) q unmapped at;
-            unmapped = rw same at (all_written_stays a bs m unmapped);
-          }
-
-      by : (o : Option Region) → region_at m a (length bs) ≡ o → write_region a bs m o ≡ Some n
-          → IsDone m n a (length bs)
-      by None at is = absurd (cc)
-      by (Some q) at is = allowed q q.writable at is
+  writes m a bs c size unmapped =
+      let stays = all_written_stays a bs m unmapped in grind (arith, found_at m a (length bs) unmapped, stays)
 
   heap_moved : (m : Memory) (e : ℕ) → is_heap_end e ≡ true → Unmapped m → Unmapped (with_heap_end m e)
   heap_moved m e is unmapped = record {
@@ -156,199 +115,91 @@ module _ (pages : List Span) where
       go None None = λ h. h
       go (Some e) o = λ h. h
 
-  after_run : (s0 : State) (n : ℕ) → Unmapped s0.memory → Unmapped (run s0 n).memory
+  pub after_run : (s0 : State) (n : ℕ) → Unmapped s0.memory → Unmapped (run s0 n).memory
   after_run s0 zero h = h
   after_run s0 (suc n) h = after_step (run s0 n) (after_run s0 n h)
 
   -- ---- what an instruction judges, of which nothing is refused
 
-  granted_if : (b : Bool) (xs : List Span) (s t : State)
-      → (b ≡ true → is_refusal s.ending ≡ false → AllApart pages xs)
-      → is_refusal (if b then s else t).ending ≡ false → AllApart pages (if b then xs else [])
-  granted_if true xs s t h fine = h refl fine
-  granted_if false xs s t h fine = tt
-
-  granted_read : (s : State) (a c : ℕ) (go : List ℕ → State) → Unmapped s.memory
-      → is_refusal (on_bytes s (bytes_at s.memory a c) go).ending ≡ false
-      → AllApart pages (record { from = a; count = c } ∷ [])
-  granted_read s a c go unmapped = by (bytes_at s.memory a c) refl
-    where
-      by : (o : Option (List ℕ)) → bytes_at s.memory a c ≡ o → is_refusal (on_bytes s o go).ending ≡ false
-          → AllApart pages (record { from = a; count = c } ∷ [])
-      by None is fine = absurd (cc)
-      by (Some bytes) is fine = (read s.memory a c bytes unmapped is, tt)
-
-  granted_write : (s : State) (a c : ℕ) (bs : List ℕ) (go : State → State) → length bs ≡ c → Unmapped s.memory
-      → is_refusal (on_memory s (Trap data_access_exception) (with_bytes s.memory a bs) go).ending ≡ false
-      → AllApart pages (record { from = a; count = c } ∷ [])
-  granted_write s a c bs go size unmapped = by (with_bytes s.memory a bs) refl
-    where
-      by : (o : Option Memory) → with_bytes s.memory a bs ≡ o
-          → is_refusal (on_memory s (Trap data_access_exception) o go).ending ≡ false
-          → AllApart pages (record { from = a; count = c } ∷ [])
-      by None is fine = absurd (cc)
-      by (Some n) is fine = (rw size at (wrote s.memory n a bs unmapped is).apart, tt)
-
-  granted_exchange : (s : State) (w : Width) (rd a : ℕ) (bs : List ℕ) → Unmapped s.memory
-      → is_refusal (exchange_step s w rd a bs).ending ≡ false
-      → AllApart pages (if a % byte_len w == 0 then record { from = a; count = byte_len w } ∷ [] else [])
-  granted_exchange s w rd a bs unmapped =
-      granted_if (a % byte_len w == 0) _ _ _ (λ _. granted_read s a (byte_len w) _ unmapped)
-
-  -- ---- windows
-
-  record IsSaved (s : State) (m : Memory) : Type 0 where
-    apart : AllApart pages (saved_span s)
-    unmapped : Unmapped m
-
-  saved : (s : State) (m : Memory) → Unmapped s.memory → saved_memory s ≡ Some m → IsSaved s m
-  saved s m unmapped = by (save_address s % 8 == 0) refl
-    where
-      by : (b : Bool) → (save_address s % 8 == 0) ≡ b
-          → (if b then with_bytes s.memory (save_address s) (frame_bytes s.registers (oldest_window s)) else None) ≡ Some m
-          → IsSaved s m
-      by true at is =
-          let done = wrote s.memory m (save_address s) (frame_bytes s.registers (oldest_window s)) unmapped is in
-          record {
-            apart = rw at (rw (length-frame_bytes s.registers (oldest_window s)) at done.apart, tt);
-            unmapped = done.unmapped;
-          }
-      by false at is = absurd (cc)
-
-  granted_spill : (s : State) (go : State → State) → Unmapped s.memory
-      → is_refusal (on_memory s Window (saved_memory s) go).ending ≡ false → AllApart pages (saved_span s)
-  granted_spill s go unmapped = by (saved_memory s) refl
-    where
-      by : (o : Option Memory) → saved_memory s ≡ o → is_refusal (on_memory s Window o go).ending ≡ false
-          → AllApart pages (saved_span s)
-      by None is fine = absurd (cc)
-      by (Some m) is fine = (saved s m unmapped is).apart
-
   granted_spills : (n : ℕ) (s : State) → Unmapped s.memory → is_refusal (spill_many n s).ending ≡ false
       → AllApart pages (judged_by_spills n s)
   unfolding judged_by_spills
   granted_spills zero s unmapped fine = tt
-  granted_spills (suc n) s unmapped fine = by (granted_spills n) (saved_memory s) refl fine
-    where
-      by : ((t : State) → Unmapped t.memory → is_refusal (spill_many n t).ending ≡ false
-          → AllApart pages (judged_by_spills n t)) → (o : Option Memory) → saved_memory s ≡ o
-          → is_refusal (on_memory s Window o (λ t. spill_many n (record t { valid = t.valid - 1 }))).ending ≡ false
-          → AllApart pages (saved_span s ++ judged_after (judged_by_spills n) s o)
-      by rest None is fine = absurd (cc)
-      by rest (Some m) is fine =
-          let done = saved s m unmapped is in
-          all_both pages (saved_span s) _ done.apart
-          (rest (record s { memory = m; valid = s.valid - 1 }) done.unmapped fine)
+  granted_spills (suc n) s unmapped fine =
+      let saves = writes s.memory (save_address s) (frame_bytes s.registers (oldest_window s)) 64
+      (length-frame_bytes s.registers (oldest_window s)) unmapped in
+      grind (
+        arith,
+        saves,
+        all_both pages (saved_span s),
+        λ (m : Memory). granted_spills n (record s { memory = m; valid = s.valid - 1 }),
+      )
 
-  granted_fill : (s : State) (rd v : ℕ) → Unmapped s.memory
-      → is_refusal (fill_from s (frame_read s.memory (register_of s frame_pointer)) (leave rd v)).ending ≡ false
-      → AllApart pages (frame_span (register_of s frame_pointer))
-  granted_fill s rd v unmapped =
-      by (register_of s frame_pointer % 8 == 0) (bytes_at s.memory (register_of s frame_pointer) 64) refl
-    where
-      by : (b : Bool) (o : Option (List ℕ)) → bytes_at s.memory (register_of s frame_pointer) 64 ≡ o
-          → is_refusal (fill_from s (if b then o else None) (leave rd v)).ending ≡ false
-          → AllApart pages (if b then record { from = register_of s frame_pointer; count = 64 } ∷ [] else [])
-      by true (Some bytes) is fine = (read s.memory (register_of s frame_pointer) 64 bytes unmapped is, tt)
-      by true None is fine = absurd (cc)
-      by false o is fine = tt
+  granted_input : (m : Memory) (a : ℕ) (bs : List ℕ) → Unmapped m
+      → IfSome (buffer_written m a bs) (λ _. AllApart pages (buffer_span a (length bs)))
+  granted_input m a [] unmapped = tt
+  granted_input m a (b ∷ bs) unmapped = grind (arith, writes m a (b ∷ bs) (suc (length bs)) refl unmapped)
 
-  -- ---- system calls
+  granted_output : (m : Memory) (a c : ℕ) → Unmapped m
+      → IfSome (buffer_read m a c) (λ _. AllApart pages (buffer_span a c))
+  granted_output m a zero unmapped = tt
+  granted_output m a (suc c) unmapped = grind (arith, reads m a (suc c) unmapped)
 
-  read_apart : (s : State) (a : ℕ) (bs : List ℕ) → Unmapped s.memory
-      → (read_into (length bs) s (buffer_written s.memory a bs) ≡ refuses EFAULT s
-      → AllApart pages (buffer_span a (length bs))) → AllApart pages (buffer_span a (length bs))
-  read_apart s a [] unmapped fine = tt
-  read_apart s a (b ∷ bs) unmapped fine = by (with_bytes s.memory a (b ∷ bs)) refl fine
-    where
-      by : (o : Option Memory) → with_bytes s.memory a (b ∷ bs) ≡ o
-          → (read_into (length (b ∷ bs)) s o ≡ refuses EFAULT s → AllApart pages (buffer_span a (length (b ∷ bs))))
-          → AllApart pages (buffer_span a (length (b ∷ bs)))
-      by None is fine = fine refl
-      by (Some n) is fine = ((wrote s.memory n a (b ∷ bs) unmapped is).apart, tt)
-
-  write_apart : (s : State) (a c : ℕ) → Unmapped s.memory
-      → (write_from c s (buffer_read s.memory a c) ≡ refuses EFAULT s → AllApart pages (buffer_span a c))
-      → AllApart pages (buffer_span a c)
-  write_apart s a zero unmapped fine = tt
-  write_apart s a (suc c) unmapped fine = by (bytes_at s.memory a (suc c)) refl fine
-    where
-      by : (o : Option (List ℕ)) → bytes_at s.memory a (suc c) ≡ o
-          → (write_from (suc c) s o ≡ refuses EFAULT s → AllApart pages (buffer_span a (suc c)))
-          → AllApart pages (buffer_span a (suc c))
-      by None is fine = fine refl
-      by (Some bytes) is fine = (read s.memory a (suc c) bytes unmapped is, tt)
-
-  call_apart : (s : State) (number a b c : ℕ) → Unmapped s.memory
-      → (system_call s number a b c ≡ refuses EFAULT s → AllApart pages (judged_by_call s number a b c))
+  -- its buffer is refused, or apart
+  abbrev IsGrantedCall : State → ℕ → ℕ → ℕ → ℕ → Type 0
+  IsGrantedCall s number a b c =
+      (system_call s number a b c ≡ refuses EFAULT s → AllApart pages (judged_by_call s number a b c))
       → AllApart pages (judged_by_call s number a b c)
-  unfolding system_call
-  call_apart s number a b c unmapped fine =
-      go (number == 1) (number == 3) (number == 4) (a == 0) (is_output a) refl refl refl fine
-    where
-      go : (x y z p q : Bool) → (number == 1) ≡ x → (number == 3) ≡ y → (number == 4) ≡ z
-          → ((if x then ended s (Exit (a % 256)) else
-          (if y then (if p then read_into (length (take c s.input)) s (buffer_written s.memory b (take c s.input))
-          else refuses EBADF s) else
-          (if z then (if q then write_from c s (buffer_read s.memory b c) else refuses EBADF s) else
-          (if number == 17 then heap_call s a else refuses ENOSYS s)))) ≡ refuses EFAULT s
-          → AllApart pages (if y then (if p then buffer_span b (length (take c s.input)) else []) else
-          (if z then (if q then buffer_span b c else []) else [])))
-          → AllApart pages (if y then (if p then buffer_span b (length (take c s.input)) else []) else
-          (if z then (if q then buffer_span b c else []) else []))
-      go true true z p q e f g fine = absurd (grind (arith, nat_tests))
-      go true false true p q e f g fine = absurd (grind (arith, nat_tests))
-      go false true z true q e f g fine = read_apart s b (take c s.input) unmapped fine
-      go false false true p true e f g fine = write_apart s b c unmapped fine
-      go x true z false q e f g fine = tt
-      go x false true p false e f g fine = tt
-      go x false false p q e f g fine = tt
 
-  -- ---- all instructions
+  granted_read : (s : State) (number a b c : ℕ) → number ≡ 3 → Unmapped s.memory → IsGrantedCall s number a b c
+  unfolding system_call
+  granted_read s number a b c e unmapped = λ refused.
+      grind (arith, e, refused, granted_input s.memory b (take c s.input) unmapped)
+
+  granted_write : (s : State) (number a b c : ℕ) → number ≡ 4 → Unmapped s.memory → IsGrantedCall s number a b c
+  unfolding system_call
+  granted_write s number a b c e unmapped = λ refused. grind (arith, e, refused, granted_output s.memory b c unmapped)
+
+  granted_call : (s : State) (number a b c : ℕ) → Unmapped s.memory → IsGrantedCall s number a b c
+  granted_call s number a b c unmapped = λ refused.
+      let read = λ (e : number ≡ 3). granted_read s number a b c e unmapped refused in
+      let write = λ (e : number ≡ 4). granted_write s number a b c e unmapped refused in
+      grind (arith, read, write)
+
+  granted_trap : (s : State) (n : ℕ) → Unmapped s.memory → is_refusal (trap_step s n).ending ≡ false
+      → ((n == call_system) ≡ true → trap_step s n ≡ refuses EFAULT s → AllApart pages (judged_by_trap s n))
+      → AllApart pages (judged_by_trap s n)
+  unfolding trap_step
+  granted_trap s n unmapped fine buffer =
+      let call = granted_call s (register_of s 1) (register_of s 8) (register_of s 9) (register_of s 10) unmapped in
+      grind (arith, granted_spills (s.valid - 1) s unmapped, buffer, call)
 
   granted_act : (s : State) (x : Instr) → Unmapped s.memory → is_refusal (act s x).ending ≡ false
-      → ((calls_by s x ≡ true) × (act s x ≡ refuses EFAULT s) → AllApart pages (judged_by s x))
+      → (calls_by s x ≡ true → act s x ≡ refuses EFAULT s → AllApart pages (judged_by s x))
       → AllApart pages (judged_by s x)
-  unfolding act load_step store_step ldstub_step swap_step save_step restore_step trap_step
+  unfolding act load_step store_step ldstub_step swap_step save_step restore_step
   granted_act s (i.Ticc cond rs1 op2) unmapped fine buffer =
-      by (holds_of cond s.codes) (trap_number s rs1 op2 == flush_windows) (trap_number s rs1 op2 == call_system) refl
-      refl fine buffer
-    where
-      by : (x y z : Bool) → (trap_number s rs1 op2 == flush_windows) ≡ y → (trap_number s rs1 op2 == call_system) ≡ z
-          → is_refusal (if x then (if y then spill_many (s.valid - 1) s else
-          (if z then system_step s else trapped s (trap_instruction (trap_number s rs1 op2)))) else next s).ending ≡ false
-          → (((x && z) ≡ true) × ((if x then (if y then spill_many (s.valid - 1) s else
-          (if z then system_step s else trapped s (trap_instruction (trap_number s rs1 op2)))) else next s)
-          ≡ refuses EFAULT s)
-          → AllApart pages (if x then (if y then judged_by_spills (s.valid - 1) s else
-          (if z then judged_by_call s (register_of s 1) (register_of s 8) (register_of s 9) (register_of s 10) else []))
-          else []))
-          → AllApart pages (if x then (if y then judged_by_spills (s.valid - 1) s else
-          (if z then judged_by_call s (register_of s 1) (register_of s 8) (register_of s 9) (register_of s 10) else []))
-          else [])
-      by false y z e f fine buffer = tt
-      by true true z e f fine buffer = granted_spills (s.valid - 1) s unmapped fine
-      by true false true e f fine buffer =
-          call_apart s (register_of s 1) (register_of s 8) (register_of s 9) (register_of s 10) unmapped
-          (λ same. buffer (refl, same))
-      by true false false e f fine buffer = tt
+      grind (arith, granted_trap s (trap_number s rs1 op2) unmapped, buffer)
   granted_act s (i.Save rd rs1 op2) unmapped fine buffer =
-      granted_if (s.valid == 7) _ _ _ (λ _. granted_spill s _ unmapped) fine
+      let saves = writes s.memory (save_address s) (frame_bytes s.registers (oldest_window s)) 64
+      (length-frame_bytes s.registers (oldest_window s)) unmapped in
+      grind (arith, saves)
   granted_act s (i.Restore rd rs1 op2) unmapped fine buffer =
-      granted_if (s.valid == 1) _ _ _ (λ _. granted_fill s rd _ unmapped) fine
+      grind (arith, reads s.memory (register_of s frame_pointer) 64 unmapped)
   granted_act s (i.Load kind rd rs1 op2) unmapped fine buffer =
-      granted_if (sum_of s rs1 op2 % load_size kind == 0) _ _ _ (λ _. granted_read s _ (load_size kind) _ unmapped) fine
+      grind (arith, reads s.memory (sum_of s rs1 op2) (load_size kind) unmapped)
   granted_act s (i.Store kind rd rs1 op2) unmapped fine buffer =
-      granted_if (sum_of s rs1 op2 % store_size kind == 0) _ _ _
-      (λ _. granted_write s _ (store_size kind) (stored s kind rd) next (length-stored kind rd s) unmapped) fine
-  granted_act s (i.Ldstub rd rs1 op2) unmapped fine buffer = granted_exchange s w8 rd _ _ unmapped fine
-  granted_act s (i.Swap rd rs1 op2) unmapped fine buffer = granted_exchange s w32 rd _ _ unmapped fine
+      grind (arith, writes s.memory (sum_of s rs1 op2) (stored s kind rd) (store_size kind) (length-stored kind rd s) unmapped)
+  granted_act s (i.Ldstub rd rs1 op2) unmapped fine buffer =
+      grind (arith, reads s.memory (sum_of s rs1 op2) 1 unmapped)
+  granted_act s (i.Swap rd rs1 op2) unmapped fine buffer =
+      grind (arith, reads s.memory (sum_of s rs1 op2) 4 unmapped)
   granted_act s _ unmapped fine buffer = tt
 
 -- ---- runs
 
 -- a step that is refused has none, and so each has
-judges : (pages : List Span) (s : State) → IsUnmapped pages s.memory
+pub judges : (pages : List Span) (s : State) → IsUnmapped pages s.memory
     → (IsRefused s → AllApart pages (judged_in s (instr_at s))) → AllApart pages (judged_in s (instr_at s))
 judges pages s unmapped clear = by s.ending (fetch_of s.memory s.pc) refl refl
   where
@@ -361,8 +212,8 @@ judges pages s unmapped clear = by s.ending (fetch_of s.memory s.pc) refl refl
           | inl refused ↦ clear (live, inl refused)
           | inr fine ↦ subst (λ (x : Option Instr). AllApart pages (judged_in s x)) (sym carries)
               (granted_act pages s (decode_of word) unmapped (rw does at fine)
-              (λ both. subst (λ (x : Option Instr). AllApart pages (judged_in s x)) carries
-              (clear (live, inr (ap (calls_on_word s) is ∙ both.0, does ∙ both.1)))))
+              (λ calls does_so. subst (λ (x : Option Instr). AllApart pages (judged_in s x)) carries
+              (clear (live, inr (ap (calls_on_word s) is ∙ calls, does ∙ does_so)))))
         ]
     by None None live is =
         let carries : instr_at s ≡ None = cc (live, is) in
@@ -381,7 +232,7 @@ module _ (pages : List Span) (s0 : State) (n : ℕ) (live : s0.ending ≡ None) 
       by : (o : Option ℕ) → fetch_of (run s0 k).memory (run s0 k).pc ≡ o
           → IsApartFromAll pages (record { from = (run s0 k).pc; count = 1 })
       by None is = clear.outside k below live is
-      by (Some word) is = fetched pages (run s0 k).memory (run s0 k).pc word (after_run pages s0 k unmapped) is
+      by (Some word) is = rw is at (fetched pages (run s0 k).memory (run s0 k).pc (after_run pages s0 k unmapped))
 
   -- and one that has ended where the one before it does
   stood : (k : ℕ) → suc k ≤ n → IsApartFromAll pages (record { from = (run s0 k).pc; count = 1 })
@@ -406,7 +257,7 @@ unmapped_is_untouched = is_untouched
 
 -- ---- runs in which nothing is refused
 
-refusal_stays : (s : State) → is_refusal s.ending ≡ true → is_refusal (step_of s).ending ≡ true
+pub refusal_stays : (s : State) → is_refusal s.ending ≡ true → is_refusal (step_of s).ending ≡ true
 refusal_stays s is = by s.ending refl
   where
     by : (e : Option Ending) → s.ending ≡ e → is_refusal (step_of s).ending ≡ true
@@ -418,6 +269,16 @@ unfetched : (s : State) → s.ending ≡ None → fetch_of s.memory s.pc ≡ Non
     → (step_of s).ending ≡ Some (Trap instruction_access_exception)
 unfolding step_of
 unfetched s live none = cc (live, none)
+
+-- where memory is no page is, nor in the first 4096 bytes
+no_room : (pages : List Span) (s : State) → IsUnmapped pages s.memory → AreHigh pages → IsNoRoom s.memory s.pc
+    → IsApartFromAll pages (record { from = s.pc; count = 1 })
+no_room pages s unmapped high (inl low) = high (record { from = s.pc; count = 1 }) (inr (omega (arith, low)))
+no_room pages s unmapped high (inr some) = by (region_at s.memory s.pc 1) refl
+  where
+    by : (o : Option Region) → region_at s.memory s.pc 1 ≡ o → IsApartFromAll pages (record { from = s.pc; count = 1 })
+    by None is = absurd (some (ap (option_map (λ (r : Region). part_of r s.pc 1)) is))
+    by (Some q) is = rw is at (found_at pages s.memory s.pc 1 unmapped)
 
 module _ (s0 : State) (n : ℕ) (granted : IsGranted s0 n) where
   -- no state before is refused
@@ -434,18 +295,22 @@ module _ (s0 : State) (n : ℕ) (granted : IsGranted s0 n) where
   fine : (k : ℕ) → k ≤ n → is_refusal (run s0 k).ending ≡ false
   fine k below = fine_from k (n - k) (omega (arith, below))
 
-  fetches : (k : ℕ) → k ≤ n → (run s0 (suc k)).ending ≡ Some (Trap instruction_access_exception) → ⊥
-  fetches k below over = elim (cases_eq k n) [
-    | inl same ↦ granted.fetch (rw same at over)
-    | inr apart ↦ contrary (fine (suc k) (omega (arith, below, apart))) (ap is_refusal over)
+  -- only the fetch behind them may be refused
+  last : (k : ℕ) → k ≤ n → (run s0 (suc k)).ending ≡ Some (Trap instruction_access_exception)
+      → IsNoRoom (run s0 k).memory (run s0 k).pc
+  last k below over = elim (cases_eq k n) [
+    | inl same ↦
+        subst (λ (i : ℕ). IsNoRoom (run s0 i).memory (run s0 i).pc) (sym same) (granted.fetch (rw same at over))
+    | inr apart ↦ absurd (contrary (fine (suc k) (omega (arith, below, apart))) (ap is_refusal over))
   ]
     where
       contrary : is_refusal (run s0 (suc k)).ending ≡ false → is_refusal (run s0 (suc k)).ending ≡ true → ⊥
       contrary gone here = absurd (cc)
 
-  none_refused : (pages : List Span) → IsUntouchedWhereRefused pages s0 n
-  none_refused pages = record {
-    outside = λ k below live none. absurd (fetches k below (unfetched (run s0 k) live none));
+  none_refused : (pages : List Span) → IsUnmapped pages s0.memory → AreHigh pages → IsUntouchedWhereRefused pages s0 n
+  none_refused pages unmapped high = record {
+    outside = λ k below live none.
+        no_room pages (run s0 k) (after_run pages s0 k unmapped) high (last k below (unfetched (run s0 k) live none));
     unjudged = λ k below refused. absurd (no_refusal k below refused.1);
   }
     where
@@ -458,5 +323,5 @@ module _ (s0 : State) (n : ℕ) (granted : IsGranted s0 n) where
       no_refusal k below (inr fault) = granted.buffers k below fault
 
 pub granted_is_untouched : GrantedIsUntouched
-granted_is_untouched pages s0 n live unmapped granted =
-    unmapped_is_untouched pages s0 n live unmapped (none_refused s0 n granted pages)
+granted_is_untouched pages s0 n live unmapped high granted =
+    unmapped_is_untouched pages s0 n live unmapped (none_refused s0 n granted pages unmapped high)

@@ -1,14 +1,12 @@
 -- What contracts of this crate's code and laws cite beyond the statement.
-use Rattle.std.specs.Prelude.{◌≡◌, ◌≤◌, List, ◌∷◌, map, ◌⊎◌, true, None, ℕ, ◌<◌}
-use Rattle.v8_memory.specs.Regions.{Memory, fetch_of}
+use Rattle.std.specs.Prelude.{◌≡◌, ◌≤◌, List, ◌∷◌, map, None, ℕ}
+use Rattle.v8_memory.specs.Regions.{Memory}
 use Rattle.v8_memory.specs.Segments.{heap_start, heap_room}
-use Rattle.v8_memory.specs.Spans.{Span, AllApart, IsApartFromAll}
+use Rattle.v8_memory.specs.Spans.{Span, AllApart, IsApart, IsApartFromAll}
 use Rattle.v8_memory.specs.Code.{heap_span, span_of}
 use Rattle.v8_step.specs.State.{State}
-use Rattle.v8_step.specs.Step.{step_of}
-use Rattle.v8_step.specs.Run.{run}
-use Rattle.two_runs.specs.Refused.{is_refusal, IsFaulted, IsGranted}
-use Rattle.two_runs.specs.Needed.{instr_at, judged_in, IsUntouched}
+use Rattle.two_runs.specs.Refused.{above_first_page, IsGranted, IsUntouchedWhereRefused}
+use Rattle.two_runs.specs.Needed.{IsUntouched}
 
 -- no region has a byte of the pages, and the heap can't get one
 pub record IsUnmapped (pages : List Span) (m : Memory) : Type 0 where
@@ -18,22 +16,16 @@ pub record IsUnmapped (pages : List Span) (m : Memory) : Type 0 where
 
 -- ---- whoever touches such pages is refused: of a run in which none of those is that are refused, none is
 
--- an access of a live state's next step is refused
-abbrev pub IsRefused : State → Type 0
-IsRefused s = (s.ending ≡ None) × ((is_refusal (step_of s).ending ≡ true) ⊎ IsFaulted s)
-
-pub record IsUntouchedWhereRefused (pages : List Span) (s0 : State) (n : ℕ) : Type 0 where
-  pub outside : (k : ℕ) → k ≤ n → (run s0 k).ending ≡ None → fetch_of (run s0 k).memory (run s0 k).pc ≡ None
-      → IsApartFromAll pages (record { from = (run s0 k).pc; count = 1 })
-  pub unjudged : (k : ℕ) → k < n → IsRefused (run s0 k)
-      → AllApart pages (judged_in (run s0 k) (instr_at (run s0 k)))
-
 abbrev pub UnmappedIsUntouched : Type 0
 UnmappedIsUntouched =
     (pages : List Span) (s0 : State) (n : ℕ) → s0.ending ≡ None → IsUnmapped pages s0.memory
     → IsUntouchedWhereRefused pages s0 n → IsUntouched pages s0 n
 
+-- and none where all the pages lie behind the first one, of a run that is granted its accesses
+abbrev pub AreHigh : List Span → Type 0
+AreHigh pages = (y : Span) → IsApart above_first_page y → IsApartFromAll pages y
+
 abbrev pub GrantedIsUntouched : Type 0
 GrantedIsUntouched =
-    (pages : List Span) (s0 : State) (n : ℕ) → s0.ending ≡ None → IsUnmapped pages s0.memory → IsGranted s0 n
-    → IsUntouched pages s0 n
+    (pages : List Span) (s0 : State) (n : ℕ) → s0.ending ≡ None → IsUnmapped pages s0.memory → AreHigh pages
+    → IsGranted s0 n → IsUntouched pages s0 n

@@ -12,12 +12,9 @@ pub mod Quiet
 pub mod QuietRuns
 pub mod RunsOn
 pub mod Spills
-pub mod ValidAccesses
-pub mod ValidCalls
 pub mod ValidFirst
 pub mod ValidMemory
 pub mod ValidNumbers
 pub mod ValidStates
 pub mod ValidSteps
-pub mod ValidWindows
 pub mod WindowStays

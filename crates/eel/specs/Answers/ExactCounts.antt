@@ -5,10 +5,8 @@ use Rattle.notes.specs.Format.{Notes}
 use Rattle.v8_process.specs.Arguments.{AreArguments}
 use Rattle.v8_process.specs.Start.{start_of}
 use Rattle.dump_file.specs.Dump.{Dump}
-use Rattle.two_runs.specs.Needed.{IsUntouched}
-use Rattle.two_runs.specs.Visits.{pages_of}
 use Rattle.tool_kit.specs.Plans.{Plan}
-use Rattle.exact_counts.specs.Exits.{HaveExited}
+use Rattle.exact_counts.specs.Clear.{AreOver, IsClear}
 use Rattle.exact_counts.specs.Profiles.{CountsOffTree, original_graph, counter_limit}
 use Rattle.exact_counts.specs.Stops.{dump_at}
 use Rattle.edit_core.specs.Faithful.{IsFaithful}
@@ -27,8 +25,8 @@ pub record IsProfile (original : List ℕ) (plan : Plan) (file : List ℕ) (note
   pub faithful : IsFaithful original plan file
 
 -- The file is an original's profile, and the dump is what a run of it has come to, wherever it was stopped, after fewer than
--- 2^32 steps or in version 2 than 2^64, and without a touch of the added pages in as many steps of the original as there were
--- visits.
+-- 2^32 steps or in version 2 than 2^64. The original is refused nothing by then, or bytes below 4096 alone, or it ends by
+-- `exit` with none of its buffers refused, or touches no added page in as many steps as there were visits.
 pub record IsOfRun (original file : List ℕ) (notes : Notes) (dump : Dump) (args : List (List ℕ)) (input : List ℕ)
     (m : ℕ) : Type 0 where
   pub bytes : AreBytes original
@@ -36,8 +34,7 @@ pub record IsOfRun (original file : List ℕ) (notes : Notes) (dump : Dump) (arg
   pub profile : IsProfile original plan file notes
   pub arguments : AreArguments args
   pub given : AreBytes input
-  pub untouched : IsUntouched (pages_of notes) (start_of original args input)
-      (visits_by notes (start_of file args input) m)
+  pub clear : IsClear notes (start_of original args input) (start_of file args input) m
   pub few : m < counter_limit notes.version
   pub is : dump ≡ dump_at notes (start_of file args input) m
 
@@ -52,24 +49,12 @@ AreExact file notes dump counts =
     ≡ executions (image_of original).text (original_graph original made.plan) (image_of original).entry
     (start_of original args input) (visits_by notes (start_of file args input) m - 1) e
 
--- The same of a run that is over, where the original ends by `exit` and none of its buffers is refused: without a word of
--- pages.
-pub record IsOfExit (original file : List ℕ) (notes : Notes) (dump : Dump) (args : List (List ℕ)) (input : List ℕ)
-    (n m : ℕ) : Type 0 where
-  pub bytes : AreBytes original
-  pub plan : Plan
-  pub profile : IsProfile original plan file notes
-  pub arguments : AreArguments args
-  pub given : AreBytes input
-  pub exited : HaveExited (start_of original args input) (start_of file args input) n m
-  pub few : m < counter_limit notes.version
-  pub is : dump ≡ dump_at notes (start_of file args input) m
-
--- Then the counts are how often the original's whole run completes each edge.
+-- And where both runs are over they are how often the original's whole run completes each edge.
 abbrev pub AreOfWholeRuns : List ℕ → Notes → Dump → List ℕ → Type 0
 AreOfWholeRuns file notes dump counts =
     (original : List ℕ) (args : List (List ℕ)) (input : List ℕ) (n m : ℕ)
-    → (made : IsOfExit original file notes dump args input n m)
+    → (made : IsOfRun original file notes dump args input m)
+    → AreOver (start_of original args input) (start_of file args input) n m
     → (e : ℕ) → e < length notes.edges
     → slice_index counts e
     ≡ executions (image_of original).text (original_graph original made.plan) (image_of original).entry

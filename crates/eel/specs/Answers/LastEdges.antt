@@ -3,14 +3,13 @@ use Rattle.std.specs.Prelude.{◌≡◌, ℕ, ◌-◌, ◌≤◌, List, []}
 use Rattle.elf32_sparc.specs.Image.{image_of}
 use Rattle.notes.specs.Format.{Notes}
 use Rattle.v8_step.specs.State.{AreBytes}
-use Rattle.two_runs.specs.Needed.{IsUntouched}
-use Rattle.two_runs.specs.Visits.{pages_of}
 use Rattle.v8_process.specs.Arguments.{AreArguments}
 use Rattle.v8_process.specs.Start.{start_of}
 use Rattle.cfg_view.specs.View.{view_of}
 use Rattle.cfg_walk.specs.Walk.{walk}
 use Rattle.dump_file.specs.Dump.{Dump}
 use Rattle.edit_core.specs.Faithful.{IsFaithful}
+use Rattle.exact_counts.specs.Clear.{AreOver, IsClear}
 use Rattle.exact_counts.specs.Stops.{dump_at}
 use Rattle.count_rebuild.specs.Dumps.{IsBetween, IsForOther, IsMisshapen, IsOfOther, IsTheirs}
 use Rattle.edge_ring.specs.Answers.{AreLast, IsUnknown}
@@ -59,15 +58,15 @@ pub record IsTraceOf (bits : ℕ) (original file : List ℕ) : Type 0 where
   pub few : bits ≤ 16
   pub faithful : IsFaithful original (trace_plan bits original) file
 
--- The file is an original's trace, and the dump is what a run of it has come to, wherever it was stopped, without a touch
--- of the added pages in as many steps of the original as there were visits.
+-- The file is an original's trace, and the dump is what a run of it has come to, wherever it was stopped. The original is
+-- refused nothing by then, or bytes below 4096 alone, or it ends by `exit` with none of its buffers refused, or touches no
+-- added page in as many steps as there were visits.
 pub record IsOfTraced (bits : ℕ) (original file : List ℕ) (notes : Notes) (dump : Dump) (args : List (List ℕ))
     (input : List ℕ) (m : ℕ) : Type 0 where
   pub trace : IsTraceOf bits original file
   pub arguments : AreArguments args
   pub given : AreBytes input
-  pub untouched : IsUntouched (pages_of notes) (start_of original args input)
-      (visits_by notes (start_of file args input) m)
+  pub clear : IsClear notes (start_of original args input) (start_of file args input) m
   pub is : dump ≡ dump_at notes (start_of file args input) m
 
 -- Then the edges are the last ones of the walk of the original's run, with the steps before that of the last visit, as
@@ -79,6 +78,16 @@ AreTheLast file notes dump edges =
     → edges
     ≡ last_of bits (walk (image_of original).text (view_of original []).graph (image_of original).entry
     (start_of original args input) (visits_by notes (start_of file args input) m - 1))
+
+-- And where both runs are over they are the last of the walk of the original's whole run.
+abbrev pub AreLastOfWholeRuns : List ℕ → Notes → Dump → List ℕ → Type 0
+AreLastOfWholeRuns file notes dump edges =
+    (bits : ℕ) (original : List ℕ) (args : List (List ℕ)) (input : List ℕ) (n m : ℕ)
+    → IsOfTraced bits original file notes dump args input m
+    → AreOver (start_of original args input) (start_of file args input) n m
+    → edges
+    ≡ last_of bits (walk (image_of original).text (view_of original []).graph (image_of original).entry
+    (start_of original args input) n)
 
 -- And they are told, but for want of memory, and where the run stands between places, which it doesn't where it has
 -- ended.

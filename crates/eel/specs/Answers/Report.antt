@@ -13,8 +13,8 @@ use Rattle.eel_reports.specs.Answers.Noted.{AreRead, AreUnread, dump_limit}
 use Rattle.eel_reports.specs.Answers.Counts.{IsUncounted, TellCounts}
 use Rattle.eel_reports.specs.Answers.Visits.{IsUnvisited, TellVisits}
 use Rattle.eel.specs.Answers.ExactCounts.{AreExact, AreOfWholeRuns, AreSeldomMissed}
-use Rattle.eel.specs.Answers.ExactVisits.{AreExactVisits, AreSeldomUnvisited}
-use Rattle.eel.specs.Answers.LastEdges.{AreSeldomUntold, AreTheLast, IsUntold, TellEdges}
+use Rattle.eel.specs.Answers.ExactVisits.{AreExactVisits, AreSeldomUnvisited, AreVisitsOfWholeRuns}
+use Rattle.eel.specs.Answers.LastEdges.{AreLastOfWholeRuns, AreSeldomUntold, AreTheLast, IsUntold, TellEdges}
 
 -- ---- what is told by the notes of a file and a dump
 
@@ -41,8 +41,10 @@ abbrev pub IsExact : (report : Report) (file : List ℕ) (notes : Notes) (dump :
     → Tell report file notes dump lines → Type 0
 IsExact reports.Counts file notes dump lines tell =
     AreExact file notes dump tell.counts × AreOfWholeRuns file notes dump tell.counts
-IsExact reports.Visits file notes dump lines tell = AreExactVisits file notes dump tell.visits
-IsExact reports.LastEdges file notes dump lines tell = AreTheLast file notes dump tell.edges
+IsExact reports.Visits file notes dump lines tell =
+    AreExactVisits file notes dump tell.visits × AreVisitsOfWholeRuns file notes dump tell.visits
+IsExact reports.LastEdges file notes dump lines tell =
+    AreTheLast file notes dump tell.edges × AreLastOfWholeRuns file notes dump tell.edges
 
 -- ---- of bytes
 

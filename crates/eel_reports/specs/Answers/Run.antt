@@ -29,7 +29,7 @@ pub record WasFed (old new : Feed) (input : List ℕ) : Type 0 where
 abbrev pub IsUnfed : Feed → Feed → Outcome → Type 0
 IsUnfed old new (TooLong name limit) =
     (name ≡ standard_input) × (limit ≡ input_limit) × GaveSome (λ count. count ≡ suc input_limit) old.left new.left
-IsUnfed old new OutOfMemory = Unit {0}
+IsUnfed old new OutOfMemory = new.faults ≡ old.faults
 IsUnfed old new DeviceFault = Rose old.faults new.faults
 IsUnfed old new _ = ⊥
 

@@ -5,24 +5,29 @@ use Rattle.edit_core.proofs.Edits.{edited}
 use Rattle.edit_core.proofs.Outwardly.{does_the_same}
 use Rattle.edit_core.proofs.RunsAlike.{edits_run_alike}
 use Rattle.edit_core.proofs.Steps.{original_fit}
+use Rattle.std.proofs.lemmas.Result.{err_from_is_err_and}
 use Rattle.edit_core.proofs.editing.edit_view.Goals as goal
 
 pub ask-requires : goal.ask-requires
 ask-requires g c = λ plan is. c.requires.counters plan
     (subst (λ (v : Seen). IsPlanOf g.F.Chooser.says c.args.tool.now v.graph.edges plan) c.requires.view is)
 
-pub returns-then-had-needed-clause-refused : goal.returns-then-had-needed-clause-refused
-returns-then-had-needed-clause-refused g c =
+pub returns-in_err-keep_room-clause-refused : goal.returns-in_err-keep_room-clause-refused
+returns-in_err-keep_room-clause-refused g c =
     let view = c.requires.view in
-    let plan = plan_of (numbers c.args.tool.now.marks) c.in_ok-request.request in (
+    let plan = plan_of (numbers c.args.tool.now.marks) c.in_ok-request.request in
+    let fault = err_from_is_err_and c.from_residual-in_err-keep_room.result
+    c.from_residual-in_err-keep_room.ensures.1 in
+    let lacks = c.in_err-keep_room.ensures.refused in
+    rw (fault.1, fault.2, lacks.0) (
       plan,
       subst (λ (v : Seen). IsPlanOf g.F.Chooser.says c.args.tool.now v.graph.edges plan) view c.in_ok-request.ensures.plan,
       record {
         sound = c.requires.sound;
         needed_is = c.in_ok-needed.ensures ∙ rw (c.text-text.ensures, c.deref.ensures.value)
             (view_bound c.args.bytes.now plan _ view);
-        had_is = c.from-had.ensures ∙ c.room.ensures ∙ ap (λ (i : Program). i.room) (view_is c.args.bytes.now plan _ view).0;
-        less = c.if-had-needed.true;
+        had_is = c.from.ensures ∙ c.room.ensures ∙ ap (λ (i : Program). i.room) (view_is c.args.bytes.now plan _ view).0;
+        less = lacks.1;
       },
     )
 
@@ -32,8 +37,8 @@ write_edit-requires g c =
     let view = c.requires.view in
     let needed : c.in_ok-needed.needed ≡ bound_of c.args.view.now.image.text c.args.view.now.graph plan =
     c.in_ok-needed.ensures ∙ rw (c.text-text.ensures, c.deref.ensures.value) refl in
-    let had = c.from-had.ensures ∙ c.room.ensures in
-    let low = c.if-had-needed.false in
+    let had = c.from.ensures ∙ c.room.ensures in
+    let low = c.in_ok-keep_room.ensures.room in
     let can = can_edit c.args.bytes.now plan _ view (sym c.requires.sound) (omega (arith, needed, had, low)) in
     let work = view_can_do c.args.bytes.now plan _ view c.in_ok-request.ensures.work in
     record {
@@ -49,8 +54,8 @@ returns-clause-edited g c =
     let plan = plan_of (numbers c.args.tool.now.marks) c.in_ok-request.request in
     let needed : c.in_ok-needed.needed ≡ bound_of c.args.view.now.image.text c.args.view.now.graph plan =
     c.in_ok-needed.ensures ∙ rw (c.text-text.ensures, c.deref.ensures.value) refl in
-    let had = c.from-had.ensures ∙ c.room.ensures in
-    let low = c.if-had-needed.false in
+    let had = c.from.ensures ∙ c.room.ensures in
+    let low = c.in_ok-keep_room.ensures.room in
     let can = can_edit bytes plan _ view (sym c.requires.sound) (omega (arith, needed, had, low)) in
     let work = view_can_do bytes plan _ view c.in_ok-request.ensures.work in
     let written = c.in_ok-file.ensures (numbers c.args.tool.now.marks) (view_is bytes plan _ view) in (

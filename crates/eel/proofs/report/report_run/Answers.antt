@@ -7,7 +7,7 @@ returns-in-Err-fetch_file-clause-reports g c = λ feed err.
     was_read c.in-Ok.file.items c.in-Ok.ensures.read
     (unread (unread-later _ _ _ _
     (files_seen g.F.Files c.fetch_file-2.new.files) _ _ _
-    c.fetch_file.ensures.kept c.fetch_file.ensures.later c.in-Err-fetch_file.ensures.unread) (refl, refl))
+    c.fetch_file.ensures.kept c.in-Ok.ensures.unfaulted c.in-Err-fetch_file.ensures.unread) (refl, refl))
 
 pub returns-in-Ok-report_lines-clause-reports : goal.returns-in-Ok-report_lines-clause-reports
 returns-in-Ok-report_lines-clause-reports g c = λ feed err.

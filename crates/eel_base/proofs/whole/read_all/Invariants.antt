@@ -7,7 +7,7 @@ invariant-loop-chunk g l = record {
   read : g.S.Source.left l.initial.s ≡ preceded l.all.items (g.S.Source.left l.s);
   within : vec_len l.all ≤ l.limit + 1;
   few_reads : g.S.Source.reads l.s ≤ g.S.Source.reads l.initial.s + vec_len l.all;
-  later : g.S.Source.faults l.initial.s ≤ g.S.Source.faults l.s;
+  unfaulted : g.S.Source.faults l.s ≡ g.S.Source.faults l.initial.s;
 }
 
 abbrev pub decreases-loop-chunk : goal.decreases-loop-chunk
