@@ -1,18 +1,23 @@
 """How the scripts of this folder are called: their words, the files that they read, and the program that they run."""
-import argparse
 import os
-import shutil
 import sys
+
+sys.path.append(os.path.join(os.path.dirname(os.path.dirname(os.path.abspath(__file__))), 'tools'))
+from scripting import BUILT, EEL, TOP, UNBUILT, Parser, note, read_file, refuse
+
+import argparse
+import shutil
+import signal
 
 import judge
 
-sys.path.append(os.path.join(os.path.dirname(os.path.dirname(os.path.abspath(__file__))), 'tools'))
-from scripting import BUILT, EEL, TOP, read_file, refuse
+__all__ = ['BUILT', 'EEL', 'TOP', 'note', 'read_file', 'refuse', 'parser_of', 'natural', 'read_program', 'input_of', 'built', 'needs',
+           'heed_signals']
 
 
 def parser_of(text, usage=None):
     """A parser of a script's words, whose help is the script's own text."""
-    return argparse.ArgumentParser(description=text, formatter_class=argparse.RawDescriptionHelpFormatter, usage=usage)
+    return Parser(text, usage)
 
 
 def natural(text):
@@ -39,8 +44,9 @@ def built(program=EEL):
     """The program that is to be run. `./eel` must be built: its build takes long, which isn't seen here."""
     made = BUILT if program == EEL else program
     if not (os.path.isfile(made) and os.access(made, os.X_OK)):
-        refuse('./eel is not built yet: call build.sh first, which says how long it takes' if made == BUILT
-               else f'{program}: no program')
+        if made == BUILT:
+            refuse('./eel is not built yet: call build.py first, which says how long it takes', UNBUILT)
+        refuse(f'{program}: no program')
     return program
 
 
@@ -49,3 +55,9 @@ def needs(*programs):
     for program in programs:
         if not shutil.which(program):
             refuse(f'{program} is missing')
+
+
+def heed_signals():
+    """Has what is called from here heed signals: a shell has commands ignore interrupts that it begins behind itself."""
+    for number in signal.SIGINT, signal.SIGTERM, signal.SIGHUP:
+        signal.signal(number, signal.default_int_handler if number == signal.SIGINT else signal.SIG_DFL)

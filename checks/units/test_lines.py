@@ -1,0 +1,154 @@
+"""Lines of small programs, beside gcov's counts of a build for this machine, and by hand."""
+import contextlib
+import io
+import os
+import random
+import shutil
+import subprocess
+import time
+import unittest
+from types import SimpleNamespace
+
+import given
+import dwarf
+from debug_lines import DebugLines, Line, Row, below, is_plain
+from line_counts import LineCounts, Passes, most_apart
+from shown import Shown
+
+GCC = 'sparc64-linux-gnu-gcc'
+OPTIONS = ['-m32', '-mcpu=v8', '-msoft-float', '-ffreestanding', '-nostdlib', '-static', '-fno-pie', '-no-pie', '-g',
+           '-fno-asynchronous-unwind-tables', '-Wl,-z,noexecstack', '-Wl,--build-id=none']
+START = ('__asm__(".global _start\\n_start: call main\\nnop\\nmov 1,%g1\\nta 16");\n'
+         '#define BARRIER __asm__ volatile("" ::: "memory")\n')
+SOURCE = START + """int values[] = {5, 0, 2, 9, 4};
+int is_large(int v)
+{
+    BARRIER;
+    return v && v > 3;
+}
+int length(const char *s)
+{
+    int n = 0;
+    BARRIER;
+    while (*s && *s != '\\n')
+        s++, n++;
+    return n;
+}
+int main(void)
+{
+    int found = 0;
+    for (int i = 0; i < 5; i++)
+        found += is_large(values[i]);
+    return found + length("a line\\nanother");
+}
+"""
+# What gcov has of these lines, by their numbers.
+BY_GCOV = {6: 5, 7: 5, 11: 1, 12: 1, 13: 7, 14: 6, 15: 1, 19: 1, 20: 6, 21: 5, 22: 1}
+
+
+def compiled(*options):
+    source, made = f'{given.FOLDER.name}/lines.c', f'{given.FOLDER.name}/lines'
+    with open(source, 'w') as opened:
+        opened.write(SOURCE)
+    subprocess.run([GCC, *OPTIONS, *options, source, '-o', made], check=True, stderr=subprocess.DEVNULL)
+    return made
+
+
+@unittest.skipUnless(shutil.which(GCC), f'there is no {GCC}')
+class Compiled(unittest.TestCase):
+    def test_lines_behind_a_barrier_are_those_of_gcov(self):
+        own = Shown(compiled('-O0'))
+        run, _ = given.run_in(own)
+        lines = LineCounts(own, run, DebugLines(own)).lines
+        self.assertEqual({line.number: count for line, count in lines.items() if line.number in BY_GCOV}, BY_GCOV)
+
+    def test_damaged_tables_are_refused_by_a_line(self):
+        name = compiled('-O2', '-gdwarf-5')
+        with open(name, 'rb') as opened:
+            file = bytearray(opened.read())
+        parts = [row for section, row in dwarf.Elf(bytes(file)).headers.items() if section.startswith('.debug')]
+        ended, own = 0, Shown(name)
+        for number in range(400):
+            chosen, damaged = random.Random(number), bytearray(file)
+            for _ in range(chosen.randrange(1, 4)):
+                row = chosen.choice(parts)
+                damaged[row[4] + chosen.randrange(row[5])] = chosen.choice([0, 1, 0x7f, 0x80, 0xff, chosen.randrange(256)])
+            own.elf = dwarf.Elf(bytes(damaged))
+            try:
+                with contextlib.redirect_stderr(io.StringIO()):
+                    DebugLines(own)
+            except SystemExit as refused:
+                self.assertEqual(refused.code, 65)
+                ended += 1
+        self.assertGreater(ended, 20)
+
+
+class Tables(unittest.TestCase):
+    def test_functions_of_a_large_table_are_read_soon(self):
+        names = [(f'a_function_of_number_{number}', 0x10054) for number in range(20000)]
+        joined = b'\0' + b''.join(name.encode() + b'\0' for name, _ in names)
+        at, symbols = 1, bytearray()
+        for name, address in names:
+            symbols += at.to_bytes(4, 'big') + address.to_bytes(4, 'big') + bytes(4) + b'\2\0\0\1'
+            at += len(name) + 1
+        elf = dwarf.Elf(given.program([0] * 4, symbols=[('f', 0x10054)]))
+        elf.headers['.symtab'] = (0, 2, 0, 0, 0, len(symbols), 0, 0, 4, 16)
+        elf.rows, elf.section, elf.contents = [None], lambda _: symbols, lambda _: joined
+        started = time.process_time()
+        self.assertEqual([name for _, name in elf.functions()], [name for name, _ in names])
+        self.assertLess(time.process_time() - started, 1)
+
+    def test_producers_that_tell_no_level_did_not_optimise(self):
+        self.assertTrue(is_plain('GNU C17 12.2.0 -m32 -mcpu=v8 -g'))
+        self.assertTrue(is_plain('GNU C17 12.2.0 -m32 -g -O2 -O0'))
+        for producer in 'GNU C17 12.2.0 -g -O2', 'GNU C17 12.2.0 -g -Og', 'GNU C17 12.2.0 -O -g', 'GNU C17 12.2.0', 'clang version 14.0.6':
+            self.assertFalse(is_plain(producer))
+
+
+class Sources(unittest.TestCase):
+    def test_stand_where_it_is_said(self):
+        folder = os.path.join(given.FOLDER.name, 'moved')
+        os.makedirs(os.path.join(folder, 'src'), exist_ok=True)
+        moved = given.written('')
+        os.rename(moved, os.path.join(folder, 'src', 'one.c'))
+        self.assertEqual(below('/build/here/src/one.c', [f'/build/here={folder}']), f'{folder}/src/one.c')
+        self.assertEqual(below('/build/here/src/one.c', [folder]), f'{folder}/src/one.c')
+        self.assertEqual(below('/build/here/one.c', [f'{folder}/src']), f'{folder}/src/one.c')
+        self.assertEqual(below('/build/hereafter/one.c', ['/build/here=/other']), '/build/hereafter/one.c')
+        self.assertEqual(below('/build/two.c', [folder]), f'{folder}/build/two.c')
+        self.assertEqual(below('/build/two.c', None), '/build/two.c')
+
+
+def counted(own, run, line_at, marks=()):
+    debug = SimpleNamespace(line_at=line_at, body_at={}, marks=marks, is_optimised=True)
+    return {line.number: count for line, count in LineCounts(own, run, debug).lines.items()}
+
+
+class Lines(unittest.TestCase):
+    def setUp(self):
+        self.own = Shown(f'{given.DATA}/carry_loop')
+        self.run, _ = given.run_in(self.own)
+
+    def test_have_their_most_executed_instruction(self):
+        line_at = {0x10054: Line('a.c', 1), 0x10058: Line('a.c', 2), 0x1005c: Line('a.c', 2), 0x10068: Line('a.c', 3)}
+        self.assertEqual(counted(self.own, self.run, line_at), {1: 1, 2: 5, 3: 1})
+
+    def test_have_what_their_marks_have(self):
+        line, marked = Line('a.c', 2), Row(0x10068, 0x1006c, Line('a.c', 2), 1, True, 0x1006c)
+        self.assertEqual(counted(self.own, self.run, {0x10058: line, 0x10068: line}, [marked]), {2: 1})
+
+    def test_that_ran_were_reached_where_their_marks_were_not(self):
+        line, marked = Line('a.c', 2), Row(0x10070, 0x10074, Line('a.c', 2), 1, True, 0x10074)
+        self.run.words.update({0x10070: 0})
+        self.own.holding.append(self.own.blocks[self.own.firsts[-1]])  # one word more, which didn't run
+        self.assertEqual(counted(self.own, self.run, {0x10058: line}, [marked]), {2: 5})
+
+    def test_in_blocks_that_exclude_each_other_add_up(self):
+        blocks = {'test': ['then', 'else'], 'then': ['end'], 'else': ['end'], 'end': []}
+        own = SimpleNamespace(blocks={name: name for name in blocks}, leads_to=blocks.get)
+        passes = Passes(own, list(blocks))
+        self.assertTrue(passes.are_apart('then', 'else'))
+        self.assertFalse(passes.are_apart('test', 'end'))
+        self.assertEqual(most_apart({'test': 7, 'then': 4, 'else': 3, 'end': 7}, passes), 7)
+        self.assertEqual(most_apart({'then': 4, 'else': 3}, passes), 7)
+        self.assertEqual(most_apart({'test': 5, 'then': 4}, passes), 5)
