@@ -11,14 +11,13 @@ With a trace the last edges of a run are printed, the oldest first, each with th
 its delay slot, and those of its block, of which the last ones may not have been reached. With --routine those that
 lead into this routine, within it and out of it are printed.
 """
-import argparse
+from scripting import Parser, print_lines, read_lines, script
+
 import os
 import sys
 from collections import defaultdict
 
-from scripting import print_lines, read_lines
-
-from debug_lines import ROOT_HELP, DebugLines
+from debug_lines import ROOT_HELP, DebugLines, tell_missing
 from runs import TRACE_HELP, is_trace, run_of, trace_of
 from shown import NAMES_HELP, Shown, share
 
@@ -38,7 +37,7 @@ def code_words(shown, run):
 
 class Annotation:
     def __init__(self, shown, run, coloured, line_at):
-        self.shown, self.run, self.texts, self.line_at = shown, run, shown.instructions(), line_at
+        self.shown, self.run, self.line_at = shown, run, line_at
         self.most = max(run.words.values()) if run else 0
         self.colours = {'hot': RED, 'warm': YELLOW, 'cold': GREY} if coloured else {}
 
@@ -57,7 +56,7 @@ class Annotation:
         return sum(self.run.words[address] for address in words) if self.run else 0
 
     def line(self, address):
-        text = f'{address:08x}  {self.texts[address]}'
+        text = f'{address:08x}  {self.shown.text_at(address)}'
         if not self.run:
             return text
         count = self.run.words[address]
@@ -89,7 +88,7 @@ class Trail:
     """The last edges of a run, with the instructions to which each led."""
 
     def __init__(self, shown, numbers, routine):
-        self.shown, self.routine, self.texts = shown, routine, shown.instructions()
+        self.shown, self.routine = shown, routine
         self.numbers = [number for number in numbers
                         if routine is None or routine in self.routines(shown.edges[number])]
 
@@ -102,31 +101,35 @@ class Trail:
             edge = self.shown.edges[number]
             yield f'edge {number} {edge.kind}: {self.shown.place(edge.source)} -> {self.shown.place(edge.target)}'
             if edge.slot is not None:
-                yield f'  {edge.slot:08x}  {self.texts[edge.slot]}    (slot)'
+                yield f'  {edge.slot:08x}  {self.shown.text_at(edge.slot)}    (slot)'
             if edge.target is not None:
                 for address in self.shown.blocks[edge.target].addresses():
-                    yield f'  {address:08x}  {self.texts[address]}'
+                    yield f'  {address:08x}  {self.shown.text_at(address)}'
 
 
 def parsed(args=None):
-    parser = argparse.ArgumentParser(description=__doc__, formatter_class=argparse.RawDescriptionHelpFormatter)
+    parser = Parser(__doc__)
     parser.add_argument('file', metavar='FILE', help='the program')
     parser.add_argument('counts', metavar='COUNTS', nargs='?', help=TRACE_HELP)
     parser.add_argument('--routine', metavar='NAME', help='this routine alone, by its name or its address')
     parser.add_argument('--names', metavar='NAMES', help=NAMES_HELP)
     parser.add_argument('--source', action='store_true', help='with the lines of the source')
-    parser.add_argument('--source-root', metavar='FOLDER', help=ROOT_HELP)
+    parser.add_argument('--source-root', metavar='FOLDER', action='append', help=ROOT_HELP)
     return parser.parse_intermixed_args(args)
 
 
-def printed(shown, run, words):
+def printed(shown, run, words, debug=None):
     """The lines for a run, if any."""
     routines = code_words(shown, run)
     if words.routine:
         start = shown.routine_called(words.routine)
         routines = {start: routines[start]}
     coloured = sys.stdout is not None and sys.stdout.isatty() and 'NO_COLOR' not in os.environ
-    line_at = DebugLines(shown, words.source_root).line_at if words.source or words.source_root else {}
+    if not words.source and not words.source_root:
+        return Annotation(shown, run, coloured, {}).lines(routines)
+    line_at = (debug or DebugLines(shown, words.source_root)).line_at
+    printed_lines = (line_at.get(address) for addresses in routines.values() for address in addresses)
+    tell_missing(sorted({line.path for line in printed_lines if line}))
     return Annotation(shown, run, coloured, line_at).lines(routines)
 
 
@@ -141,4 +144,4 @@ def main():
 
 
 if __name__ == '__main__':
-    main()
+    script(main)

@@ -1,6 +1,7 @@
 """The calls between a program's routines in a run, and what they cost, as a profiler tells it."""
+import copy
 from collections import Counter, defaultdict
-from dataclasses import dataclass
+from dataclasses import dataclass, replace
 
 from shown import is_call, is_return
 
@@ -56,10 +57,10 @@ class CallCosts:
     def __init__(self, shown, run):
         self.shown, self.run = shown, run
         self.own = Counter()
-        for first, block in shown.blocks.items():
-            own = sum(map(run.words.get, block.addresses())) if run.words else 0
-            if own:
-                self.own[shown.routine_of(first)] += own
+        for block in shown.blocks.values():
+            for start, addresses in shown.parts_of(block) if run.words else ():
+                if own := sum(map(run.words.get, addresses)):
+                    self.own[start] += own
         self.landed, self.sites, within = self.through_registers()
         self.calls = [Call(*site, count) for site, count in self.find().items()]
         self.entered = Counter(self.landed)
@@ -67,16 +68,27 @@ class CallCosts:
             self.entered[call.callee] += call.count
         self.entered[shown.entry] += run.starts
         self.calls += self.matched(within)
-        self.below, self.above = defaultdict(list), defaultdict(list)
-        for call in self.calls:
-            self.below[call.caller].append(call)
-            self.above[call.callee].append(call)
+        self.link()
         self.roots = Counter({shown.routine_of(shown.entry): run.starts})
         if self.below[POINTER]:
             self.roots[POINTER] = 1
         self.find_more_roots()
         self.inclusive = {}
         self.share_all()
+
+    def link(self):
+        self.below, self.above = defaultdict(list), defaultdict(list)
+        for call in self.calls:
+            self.below[call.caller].append(call)
+            self.above[call.callee].append(call)
+
+    def of(self, own):
+        """The same calls in their order, with what they cost where routines have other costs, such as their loads."""
+        other = copy.copy(self)
+        other.own, other.inclusive, other.calls = own, {}, [replace(call, cost=0) for call in self.calls]
+        other.link()
+        other.share_all()
+        return other
 
     def name_of(self, start):
         return POINTER_NAME if start == POINTER else self.shown.name_of(start)
@@ -91,6 +103,9 @@ class CallCosts:
                 caller = self.shown.routine_of(last)
                 if edge.kind == 'call' or edge.target != caller:
                     found[last, caller, edge.target] += self.run.edge(edge)
+        for start in self.shown.inner:
+            for source, count in (self.run.entries(start) or {}).items():
+                found[source, self.shown.routine_of(source), start] += count
         return found
 
     def through_registers(self):
@@ -158,8 +173,8 @@ class CallCosts:
         return found
 
     def calls_of(self, start):
-        """How often a routine was entered."""
-        return self.entered[start]
+        """How often a routine was entered, or None where that isn't known."""
+        return None if start in self.shown.inner and self.run.entries(start) is None else self.entered[start]
 
     def through_pointers(self):
         """What was called by calls whose callers aren't known, or 0."""

@@ -4,19 +4,21 @@
 It names the float, V9 and other instructions that no run gets past, and the system calls, each with the functions where
 they are. What is looked at are the words to which CALLs, branches and switches lead from where the program is entered;
 those to which only jumps through registers may lead are told apart. The status is 0 where nothing stands in the way, 1
-where the file can't be edited or run, and 2 where something may stop its run.
+where the file can't be edited or run, and 2 where something may stop its run; else 64 for wrong words, 65 for bad NAMES,
+66 for a file that is missing.
 """
-import argparse
+from scripting import CONTENTS, Parser, print_lines, read_file, refuse, said_if_long, script
+
 import os
-import sys
 import tempfile
 from collections import defaultdict
 
-from scripting import print_lines, read_file
-from shown import NAMES_HELP, Shown, call_eel
+from shown import NAMES_HELP, Shown, call_eel, explained, is_trap, status_of
 
+REFUSED, MAY_STOP = 1, 2  # statuses
+NO_ROOM = 69  # that of `eel`
 CALLS = {1: 'exit', 3: 'read', 4: 'write', 17: 'brk'}
-G1, EXIT = 1, 1
+G1, EXIT, SYSTEM_CALL = 1, 1, 0x91d02010  # ta 16
 FLOAT_LOADS = {0x20, 0x21, 0x23, 0x24, 0x25, 0x27}
 COPROCESSOR_LOADS = {0x30, 0x31, 0x33, 0x34, 0x35, 0x37}
 V9_LOADS = {0x08, 0x0b, 0x0e, 0x18, 0x1b, 0x1e, 0x22, 0x2d, 0x32, 0x36, 0x3c, 0x3d, 0x3e}
@@ -55,8 +57,9 @@ class Reach:
     that is known to be `exit`; and where there are sections, words in those of code alone are looked at."""
 
     def __init__(self, shown):
-        self.shown, self.texts, self.sections = shown, shown.instructions(), shown.elf.code()
-        self.exits = {address for address, text in self.texts.items() if text == 'ta 16' and self.value(address, G1) == EXIT}
+        self.shown, self.sections = shown, shown.elf.code()
+        self.exits = {address for address in shown.text()
+                      if shown.word(address) == SYSTEM_CALL and self.value(address, G1) == EXIT}
         self.sure = self.words(self.reached([shown.entry]))
         self.maybe = self.words(shown.code()) - self.sure
         self.maybe -= {address for end in self.exits & self.sure for address in self.data_behind(end)}
@@ -92,7 +95,7 @@ class Reach:
 
     def is_odd(self, address):
         """Whether a word is listed as a number, or is a V9 one that has bits set that V8 ignores; or is privileged."""
-        return self.texts.get(address, '').startswith('.word') or bool(privileged_name(self.shown.word(address) or 0))
+        return self.shown.long_text_at(address).startswith('.word') or bool(privileged_name(self.shown.word(address) or 0))
 
     def value(self, address, register):
         """What stands in a register: a number, the register of the routine's argument in a list, or None."""
@@ -113,8 +116,8 @@ class Reach:
         if not isinstance(value, list):
             return [(value, self.function(address))]
         argument = value[0] & 15  # %i0 was %o0 before the SAVE
-        routine = self.shown.blocks[self.shown.routine_of(address)]
-        calls = [self.shown.blocks[edge.source].last() for edge in routine.into
+        routine = self.shown.blocks.get(self.shown.routine_of(address))
+        calls = [self.shown.blocks[edge.source].last() for edge in (routine.into if routine else ())
                  if edge.kind == 'call' and argument >= 8]
         numbers = [(self.value(call + 8, argument), self.function(call)) for call in calls]
         return [(None if isinstance(number, list) else number, function) for number, function in numbers]
@@ -147,12 +150,12 @@ def traps(reach, words):
     """The system calls by number, and the other traps, each with its functions."""
     calls, others = defaultdict(set), defaultdict(set)
     for address in sorted(words):
-        text = reach.texts.get(address, '')
-        if text == 'ta 16':
+        word = reach.shown.word(address)
+        if word == SYSTEM_CALL:
             for number, function in reach.system_calls(address):
                 if number is not None or address in reach.sure:
                     calls[number].add(function)
-        elif text.startswith('ta ') and text != 'ta 3':
+        elif is_trap(word) and (text := reach.shown.text_at(address)) != 'ta 3' and text.startswith('ta '):
             others[text].add(reach.function(address))
     return calls, others
 
@@ -193,43 +196,37 @@ class Findings:
 
 
 def refused(name):
-    """Why a file can't be edited, or None: a profile of it is made."""
+    """Why a file can't be edited, or None: a profile of it is made. Where that can't be told the script ends."""
     with tempfile.TemporaryDirectory(prefix='eel-check-') as folder:
         made = call_eel('edit', name, os.path.join(folder, 'written'), 'profile')
     told = made.stderr.decode('utf-8', 'replace').strip().removeprefix('eel: ').removeprefix(f'{name}: ')
-    return (told or f'status {made.returncode}') if made.returncode else None
-
-
-def explained(code):
-    """What `eel --faults` says of a file fault, on one line."""
-    rows, left, right = call_eel('--faults').stdout.decode().splitlines(), [], []
-    for number, row in enumerate(rows):
-        if row[:4].strip() == code or left and row[:4].strip() == '' and row:
-            left.append(row[4:61].strip())
-            right.append(row[61:].strip())
-        elif left:
-            break
-    return f'it {" ".join(filter(None, left))}; {" ".join(filter(None, right))}'
+    if made.returncode not in (0, CONTENTS, NO_ROOM):
+        refuse(f'{name}: {told or f"status {made.returncode}"}', status_of(made))
+    return told if made.returncode else None
 
 
 def main():
-    parser = argparse.ArgumentParser(description=__doc__, formatter_class=argparse.RawDescriptionHelpFormatter)
+    parser = Parser(__doc__)
     parser.add_argument('file', metavar='FILE', help='the program')
     parser.add_argument('--names', metavar='NAMES', help=NAMES_HELP)
     words = parser.parse_args()
-    why = refused(words.file) if read_file(words.file) is not None else None
+    read_file(words.file)
+    with said_if_long('it is edited'):
+        why = refused(words.file)
     if why:
         print(f'{words.file}: can be edited: no: {why}')
         if 'file fault' in why:
-            print(f'  {explained(why.split()[2])}')
-        return 1
-    shown = Shown(words.file, words.names)
-    findings = Findings(Reach(shown))
+            print(f'  {explained(words.file, why.split()[2])}')
+        return REFUSED
+    with said_if_long('its instructions are looked through'):
+        shown = Shown(words.file, words.names)
+        findings = Findings(Reach(shown))
+        lines = list(findings.lines())
     count = sum(block.words for block in shown.blocks.values())
     size = f'{count} words, {len(shown.routines)} routines, {len(shown.edges)} edges'
-    print_lines([f'{words.file}: {size}', 'can be edited: yes', *findings.lines()])
-    return 2 if findings.stops_runs else 0
+    print_lines([f'{words.file}: {size}', 'can be edited: yes', *lines])
+    return MAY_STOP if findings.stops_runs else 0
 
 
 if __name__ == '__main__':
-    sys.exit(main())
+    script(main)

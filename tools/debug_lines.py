@@ -1,8 +1,7 @@
 """The lines and functions of a program by its debug information, which may stand in files beside it."""
+import functools
 import os
 import re
-import struct
-import zlib
 from dataclasses import dataclass, field
 from typing import NamedTuple
 
@@ -11,7 +10,8 @@ from scripting import note, read_file, refuse
 import dwarf
 from shown import demangled
 
-ROOT_HELP = 'the sources stand in this folder, each below it by its whole path'
+ROOT_HELP = 'where sources stand: OLD=NEW for those whose path begins with OLD, or a folder below which each stands by its ' \
+            'whole path or by the end of it; may be given several times'
 OPTIMISED = 'was optimised: a line whose instructions were moved or joined may have the count of another'
 
 
@@ -34,10 +34,13 @@ class Row:
 
 @dataclass
 class Copy:
-    """A copy of a function by inlining: where it is entered, if that is said and else its lowest address; its words."""
+    """A copy of a function by inlining: where it is entered, if that is said and else its lowest address; its words; the
+    line of the call in whose place it stands, if that is said; and its offset, which is behind those of outer copies."""
     entry: int
     words: set
     is_said: bool
+    called: Line | None = None
+    offset: int = 0
 
 
 @dataclass
@@ -54,6 +57,34 @@ def marks_statements(rows):
     don't: it marks a row where its line is another than that of the row before, and so no test of a loop."""
     empty = any(row.marks and row.address == row.end for row in rows[:-1])
     return empty and not all(row.marks for row in rows)
+
+
+def is_plain(producer):
+    """Whether a producer tells its options, and among them no level above -O0."""
+    levels = re.findall(r' -O(\w*)', producer)
+    return ' -' in producer and levels[-1:] in ([], ['0'])
+
+
+def below(path, roots):
+    """Where a source stands, by what is said of that: its path with another beginning, or below a folder."""
+    for root in roots or ():
+        old, equals, new = root.partition('=')
+        if equals and not os.path.isdir(root):
+            if f'{path}/'.startswith(old.rstrip('/') + '/'):
+                return os.path.join(new, path[len(old):].lstrip('/')) if path != old else new
+            continue
+        parts = path.strip('/').split('/')
+        for at in range(len(parts)):
+            if os.path.isfile(found := os.path.join(root, *parts[at:])):
+                return found
+    folders = [root for root in roots or () if '=' not in root or os.path.isdir(root)]
+    return os.path.join(folders[0], path.lstrip('/')) if folders else path
+
+
+def tell_missing(paths):
+    """Says which sources aren't there."""
+    for number, path in enumerate(path for path in paths if not os.path.isfile(path)):
+        note(f'{path} is not there, so that its lines have no text{"" if number else "; --source-root says where it is"}')
 
 
 def described(entry):
@@ -74,24 +105,23 @@ def copy_of(entry, lowest, words):
 
 
 class DebugLines:
-    """All lines and functions of a program that have code. Where a root is named, sources stand below it."""
+    """All lines and functions of a program that have code. It may be said where sources stand."""
 
-    def __init__(self, shown, root=None):
-        self.root = root
+    def __init__(self, shown, roots=None):
+        self.place_of = functools.cache(lambda path: below(path, roots))
         self.shown, self.marks, self.line_at, self.body_at, self.functions = shown, [], {}, {}, {}
         self.is_optimised, self.missing = False, []
         self.start, self.end = shown.text().start, shown.text().stop
         try:
             self.read(dwarf.Dwarf(shown.linked or shown.elf))
-        except (dwarf.Broken, IndexError, struct.error, zlib.error, RecursionError) as error:
+        except dwarf.DAMAGED as error:
             refuse(f'{shown.name}: its debug information cannot be read: {error}')
         if self.missing:
             note(f'{self.missing[0]} is missing: functions are those of symbols, and inlined copies are not told apart')
 
     def path(self, unit, number):
         """The path of a source, by its number in a unit."""
-        path = unit.path(number)
-        return os.path.join(self.root, path.lstrip('/')) if self.root else path
+        return self.place_of(unit.path(number))
 
     def words(self, low, high):
         """The addresses of the text's words in a range."""
@@ -99,9 +129,11 @@ class DebugLines:
 
     def read(self, debug):
         for unit in debug.units():
+            parts = list(self.parts(unit))
+            is_unoptimised = any(is_plain(part.attribute(dwarf.PRODUCER, '')) for part in parts)
             for rows, end in unit.lines().sequences() if unit.lines() and unit.kind not in (2, 6) else ():
-                self.add_rows(unit, rows, end)
-            for part in self.parts(unit):
+                self.add_rows(unit, rows, end, is_unoptimised)
+            for part in parts:
                 self.add_bodies(part)
         names = demangled(function.name for function in self.functions.values())
         for function, name in zip(self.functions.values(), names):
@@ -119,8 +151,9 @@ class DebugLines:
         self.missing.append(name)
         return []
 
-    def add_rows(self, unit, rows, end):
-        """Each word has the last row at or before its address; line 0 says that there is none."""
+    def add_rows(self, unit, rows, end, is_unoptimised):
+        """Each word has the last row at or before its address; line 0 says that there is none. Where nothing was optimised
+        no statement went elsewhere, and marks tell of lines without words alone."""
         paths = {number: self.path(unit, number) for number in {row.file for row in rows}}
         lines = {(file, number): Line(paths[file], number) for file, number in {(row.file, row.line) for row in rows}}
         ends = [row.address for row in rows[1:]] + [end]
@@ -130,17 +163,18 @@ class DebugLines:
             goes_on = behind is not None and behind.line == row.line and not behind.marks
             row.last = behind.last if goes_on else row.end
         if marks_statements(rows):
-            self.marks += [row for row in rows if row.marks and row.line.number]
+            own = {row.line for row in rows if row.end > row.address} if is_unoptimised else ()
+            self.marks += [row for row in rows if row.marks and row.line.number and row.line not in own]
         for row in rows:
             if row.line.number:
                 self.line_at.update((address, row.line) for address in self.words(row.address, row.end))
 
     def add_bodies(self, unit):
         """Inner bodies come after those in which they lie, and take their words; what the linker left out has none."""
-        levels = re.findall(r' -O(\w*)', unit.attribute(dwarf.PRODUCER, ''))
-        self.is_optimised |= levels[-1:] not in ([], ['0'])
+        producer = unit.attribute(dwarf.PRODUCER, '')
+        self.is_optimised |= ' -O' in producer and not is_plain(producer)
         for entry in unit.functions():
-            if not unit.attribute(dwarf.PRODUCER, '').startswith('GNU'):  # clang doesn't tell its options
+            if not producer.startswith('GNU'):  # clang doesn't tell its options
                 self.is_optimised |= dwarf.CALL_ALL_CALLS in entry or dwarf.GNU_ALL_CALL_SITES in entry
             ranges = list(unit.ranges(entry))
             words = {address for low, high in ranges for address in self.words(low, high)}
@@ -148,15 +182,23 @@ class DebugLines:
                 self.body_at.update(dict.fromkeys(words, (id(unit), entry.offset)))
                 self.add_function(unit, entry, ranges, words)
 
+    def line_of(self, entry, file, number):
+        """A place in a source that attributes name, or None. File 0 is none before version 5."""
+        file, number = entry.get(file), entry.get(number)
+        if not number or file is None or not file and entry.unit.version < 5 or not entry.unit.lines():
+            return None
+        return Line(self.path(entry.unit, file), number)
+
     def add_function(self, unit, entry, ranges, words):
         named = described(entry)
-        number, file = named.get(dwarf.DECL_LINE), named.get(dwarf.DECL_FILE)
-        if not number or not file or not named.unit.lines():
+        line = self.line_of(named, dwarf.DECL_FILE, dwarf.DECL_LINE)
+        if not line:
             return
-        line = Line(self.path(named.unit, file), number)
         name = named.get(dwarf.LINKAGE_NAME) or named.get(dwarf.MIPS_LINKAGE_NAME) or named.get(dwarf.NAME, '?')
         function = self.functions.setdefault((line, name), Function(name, line))
         if entry.tag == dwarf.SUBPROGRAM:
             function.starts.append(ranges[0][0])
         else:
-            function.copies.append(copy_of(entry, min(ranges)[0], words))
+            copy = copy_of(entry, min(ranges)[0], words)
+            copy.called, copy.offset = self.line_of(entry, dwarf.CALL_FILE, dwarf.CALL_LINE), entry.offset
+            function.copies.append(copy)

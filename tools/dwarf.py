@@ -10,7 +10,7 @@ SUBPROGRAM, INLINED = 0x2e, 0x1d
 NAME, STMT_LIST, LOW_PC, HIGH_PC, COMP_DIR, PRODUCER = 0x03, 0x10, 0x11, 0x12, 0x1b, 0x25
 ABSTRACT_ORIGIN, DECL_FILE, DECL_LINE, SPECIFICATION, ENTRY_PC, RANGES = 0x31, 0x3a, 0x3b, 0x47, 0x52, 0x55
 LINKAGE_NAME, STR_OFFSETS_BASE, ADDR_BASE, RNGLISTS_BASE, DWO_NAME = 0x6e, 0x72, 0x73, 0x74, 0x76
-CALL_ALL_CALLS = 0x7a
+CALL_FILE, CALL_LINE, CALL_ALL_CALLS = 0x58, 0x59, 0x7a
 MIPS_LINKAGE_NAME, GNU_ALL_CALL_SITES, GNU_DWO_NAME = 0x2007, 0x2117, 0x2130
 GNU_RANGES_BASE, GNU_ADDR_BASE = 0x2132, 0x2133
 # Entries whose children may be functions with code; those of others are left out.
@@ -26,6 +26,10 @@ ADDRESSES = ADDRX | {0x01}
 
 class Broken(Exception):
     """Debug information that cannot be read."""
+
+
+# What may be raised where debug information is damaged.
+DAMAGED = (Broken, ArithmeticError, AttributeError, LookupError, RecursionError, TypeError, ValueError, struct.error, zlib.error)
 
 
 class Elf:
@@ -61,7 +65,7 @@ class Elf:
         for at in range(0, len(symbols) - 15, 16):
             name, value, _, info = struct.unpack_from('>3IB', symbols, at)
             if info & 15 == 2:
-                yield value, names[name:].split(b'\0', 1)[0].decode('utf-8', 'replace')
+                yield value, names[name:max(names.find(b'\0', name), name)].decode('utf-8', 'replace')
 
     def contents(self, row):
         return self.file[row[4]:row[4] + row[5]]
@@ -151,12 +155,30 @@ class Reader:
         return self.data[self.at - size:self.at]
 
 
+# How what stands behind a form of another size than a fixed one is skipped.
+LEB, STRING, BLOCK, BLOCK1, BLOCK2, BLOCK4, OTHER = range(-1, -8, -1)
+SKIPPED = {0x08: STRING, 0x09: BLOCK, 0x18: BLOCK, 0x0a: BLOCK1, 0x03: BLOCK2, 0x04: BLOCK4, 0x0d: LEB, **dict.fromkeys(NUMBERS, LEB)}
+
+
 @dataclass
 class Abbreviation:
     tag: int
     has_children: bool
     fields: list  # attribute, form, constant
-    size: int | None = field(default=None)  # of an entry, where each has the same
+    skips: dict = field(default_factory=dict)  # by whether offsets are wide: sizes and what else is to be skipped
+
+    def steps(self, wide):
+        """What is skipped of an entry: sizes from 0 on, and other parts."""
+        if wide not in self.skips:
+            steps = [0]
+            for _, form, _ in self.fields:
+                size = FIXED.get(form, (8 if wide else 4) if form in OFFSETS else SKIPPED.get(form, OTHER))
+                if size >= 0 and steps[-1] >= 0:
+                    steps[-1] += size
+                else:
+                    steps.append(size)
+            self.skips[wide] = steps
+        return self.skips[wide]
 
 
 @dataclass
@@ -293,6 +315,15 @@ class LineProgram:
                     read.uleb()
 
 
+def behind_part(info, at, part):
+    """The offset behind a string or a block, or None where it must be read to tell."""
+    if part == STRING:
+        return info.index(0, at) + 1
+    read = Reader(info, at)
+    size = read.uleb() if part == BLOCK else read.number({BLOCK1: 1, BLOCK2: 2, BLOCK4: 4}[part]) if part != OTHER else None
+    return None if size is None else read.at + size
+
+
 class Unit:
     """A compilation unit, or its part in a .dwo file, which has the line table and addresses of its skeleton."""
 
@@ -347,14 +378,27 @@ class Unit:
             forms[attribute] = form, read.form(form, constant)
         return Entry(self, at, abbreviation, forms), read.at
 
-    def behind(self, at):
+    def behind(self, info, at):
         """The offset behind an entry that isn't wanted, and its abbreviation."""
-        read = Reader(self.dwarf.section('info'), at)
-        read.wide = self.wide
-        abbreviation = self.abbreviations.get(read.uleb())
-        if abbreviation and abbreviation.size is not None:
-            return read.at + abbreviation.size, abbreviation
-        return self.entry(at)[1], abbreviation
+        begun, code, at = at, info[at], at + 1
+        if code > 0x7f:
+            read = Reader(info, begun)
+            code, at = read.uleb(), read.at
+        abbreviation = self.abbreviations.get(code)
+        if abbreviation is None or self.version == 2:
+            return self.entry(begun)[1], abbreviation
+        for step in abbreviation.steps(self.wide):
+            if step >= 0:
+                at += step
+            elif step == LEB:
+                while info[at] > 0x7f:
+                    at += 1
+                at += 1
+            else:
+                at = behind_part(info, at, step)
+                if at is None:
+                    return self.entry(begun)[1], abbreviation
+        return at, abbreviation
 
     def functions(self):
         """The functions and inlined copies of them, outer ones first."""
@@ -368,7 +412,7 @@ class Unit:
                 if entry and entry.tag in (SUBPROGRAM, INLINED):
                     yield entry
             else:
-                at, abbreviation = self.behind(at)
+                at, abbreviation = self.behind(info, at)
             if abbreviation is None:
                 depth -= 1
                 if skipped is not None and depth <= skipped:
@@ -488,8 +532,7 @@ class Dwarf:
                 if (attribute, form) == (0, 0):
                     break
                 fields.append((attribute, form, read.sleb() if form == 0x21 else None))
-            sizes = [FIXED.get(form) for _, form, _ in fields]
-            yield code, Abbreviation(tag, has_children, fields, None if None in sizes else sum(sizes))
+            yield code, Abbreviation(tag, has_children, fields)
 
     def line_table(self, at):
         if at not in self.line_tables:

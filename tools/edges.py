@@ -6,9 +6,8 @@ offset (0x18, say) it is the edges into and out of the block that holds this wor
 are printed in place of them: `edges.py FILE f --do 'keep 0 %o0'` keeps the first argument of each call of f. Such lines
 are for the edges that enter, unless --leave or --within says otherwise.
 """
-from scripting import print_lines, refuse
+from scripting import WORDS, Parser, print_lines, refuse, script
 
-import argparse
 import re
 
 from shown import NAMES_HELP, Shown
@@ -23,13 +22,13 @@ def edges_of(shown, name):
     start, ways = shown.routine_called(function), {way: [] for way in WAYS}
     if offset:
         if not re.fullmatch('0x[0-9a-fA-F]+|[0-9]+', offset):
-            refuse(f'{name}: {offset} is no offset, such as 0x18')
+            refuse(f'{name}: {offset} is no offset, such as 0x18', WORDS)
         block = shown.block_of(start + int(offset, 0))
-        if block is None or shown.routine_of(block.first) != start:
-            refuse(f'{name}: {function} is shorter')
+        if block is None or start not in dict(shown.parts_of(block)):
+            refuse(f'{name}: {function} is shorter', WORDS)
         inside = {block.first}
     else:
-        inside = {first for first in shown.blocks if shown.routine_of(first) == start}
+        inside = {block.first for block in shown.blocks.values() if start in dict(shown.parts_of(block))}
     for edge in shown.edges:
         source, target = edge.source in inside, edge.target in inside
         is_call = edge.kind == 'call' and edge.target == start
@@ -54,7 +53,7 @@ def printed(shown, words):
 
 
 def main():
-    parser = argparse.ArgumentParser(description=__doc__, formatter_class=argparse.RawDescriptionHelpFormatter)
+    parser = Parser(__doc__)
     parser.add_argument('file', metavar='FILE', help='the program')
     parser.add_argument('names_of', metavar='FUNCTION', nargs='+', help='a function, by its name or its address')
     for way in WAYS:
@@ -71,4 +70,4 @@ def main():
 
 
 if __name__ == '__main__':
-    main()
+    script(main)

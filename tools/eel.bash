@@ -4,7 +4,7 @@ _eel() {
     case $COMP_CWORD,$command in
     1,*)
         COMPREPLY=($(compgen -W 'edit restore run counts visits trace show list words demo --help --faults --version
-            --clean --install --uninstall' -- "$word"))
+            --clean --install --uninstall --package' -- "$word"))
         return ;;
     4,edit)
         COMPREPLY=($(compgen -W 'plain script profile every trace' -- "$word"))

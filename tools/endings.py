@@ -3,9 +3,10 @@ import array
 import bisect
 import struct
 import sys
+from collections import Counter
 from dataclasses import dataclass
 
-from scripting import refuse
+from shown import is_call, is_return
 
 # What each trap is, and its usual cause.
 TRAPS = {
@@ -41,19 +42,21 @@ class Ending:
     number: int
     pc: int
     steps: int
+    was_interrupted: bool = False
 
     def explained(self):
         """What the ending means, or nothing of an exit."""
         return {'trap': f'{trap_name(self.number)}: {trap_cause(self.number)}'.rstrip(': '),
                 'window': 'a register window could not be saved or loaded: %sp or %fp points to no stack',
                 'couple': 'a branch, a call or a jump stands in the delay slot of another',
-                'stopped': 'the limit of steps was reached: -n says more'}.get(self.kind)
+                'stopped': 'interrupted: these are its first steps' if self.was_interrupted else
+                           'the limit of steps was reached: -n says more'}.get(self.kind)
 
 
-def ending_of(dump):
+def ending_of(dump, was_interrupted=False):
     """The ending that the bytes of a dump tell."""
     _, _, kind, number, pc, steps = struct.unpack_from('>5IQ', dump)
-    return Ending(ENDINGS[kind], number, pc, steps)
+    return Ending(ENDINGS[kind], number, pc, steps, was_interrupted)
 
 
 def place_of(written, pc):
@@ -74,3 +77,43 @@ def place_of(written, pc):
     if any(start <= pc < start + length for start, length in zip(segments[::2], segments[1::2])):
         return None
     return pc
+
+
+def stray_jump(shown, run):
+    """The call or jump through a register from which a run came to no instruction, or None where its counts don't tell
+    that: all returns must have arrived. Of two calls that didn't come back it is the one that was entered by the other."""
+    calls, jumps, arrived = Counter(), Counter(), Counter()
+    for jump, count in run.jumps():
+        word = shown.word(jump)
+        (calls if is_call(word) else arrived if is_return(word) else jumps)[jump if not is_return(word) else 'returns'] += count
+    for target, count in run.landings():
+        call = shown.call_before(target)
+        if call is None:
+            arrived['at a routine' if target in shown.routines else 'at a label'] += count
+        else:
+            arrived['returns'] -= count
+            calls[call] -= count
+    left = [call for call, count in calls.items() if count > 0]
+    if arrived['returns'] or any(calls[call] > 1 for call in left):
+        return None
+    if jumps.total() != arrived['at a label']:
+        return next(iter(jumps)) if len(jumps) == 1 and not left else None
+    if len(left) == 2:
+        first = entered_first(shown, run)
+        left = [call for call in left if shown.routine_of(call) not in first]
+    return left[0] if len(left) == 1 else None
+
+
+def entered_first(shown, run):
+    """The routines that a run is still in, from the first one on up to a call through a register."""
+    back, left = Counter(), {}
+    for target, count in run.landings():
+        back[shown.call_before(target)] += count
+    for edge in shown.edges:
+        if edge.kind == 'call' and run.edge(edge) > back[call := shown.blocks[edge.source].last()]:
+            left[shown.routine_of(call)] = edge.target
+    found, routine = set(), shown.routine_of(shown.entry)
+    while routine is not None and routine not in found:
+        found.add(routine)
+        routine = left.get(routine)
+    return found

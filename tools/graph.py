@@ -10,11 +10,10 @@ node each, and a dotted edge leads behind a call. A block and its landed copy ar
 With a trace in place of COUNTS the blocks are drawn to which the last edges of a run led, each edge with the places at
 which it stands in their order. By visits an edge whose count doesn't follow from them has a `?`.
 """
-import argparse
+from scripting import Parser, note, print_lines, script
+
 import math
 from collections import Counter, defaultdict
-
-from scripting import note, print_lines
 
 from call_costs import POINTER, CallCosts
 from runs import TRACE_HELP, Run, Trace, is_trace, run_of, trace_of
@@ -101,8 +100,7 @@ class FlowGraph:
     """The blocks of one routine, or those that the last edges of a run touched, and their edges."""
 
     def __init__(self, shown, run, routine, with_code):
-        self.shown, self.run, self.routine = shown, run, routine
-        self.texts = shown.instructions() if with_code else None
+        self.shown, self.run, self.routine, self.with_code = shown, run, routine, with_code
         self.counts, self.unknown = Counter(), set()
         for edge in shown.edges if run else []:
             self.counts[edge.way()] += run.edge(edge)
@@ -114,22 +112,22 @@ class FlowGraph:
             self.places[edge.way()] += run.places.get(edge.number, [])
         self.clusters = defaultdict(list)
         for first in sorted(shown.code(run) if routine is not None else run.blocks):
-            start = shown.routine_of(first)
-            if routine in (None, start):
-                self.clusters[start].append(first)
+            starts = [start for start, _ in shown.parts_of(shown.blocks[first])]
+            if routine in (None, *starts):
+                self.clusters[starts[0] if routine is None else routine].append(first)
         self.drawn = {first for blocks in self.clusters.values() for first in blocks}
 
     def instructions(self, block):
         """The instructions of a block and that in its delay slot, a line each."""
         for address in block.addresses():
-            yield f'{address:08x}  {self.texts[address]}'
+            yield f'{address:08x}  {self.shown.text_at(address)}'
         slot, kinds = self.shown.slot_of(block)
         if slot is not None:
             condition = '' if len(kinds) == len(block.out) else f', if {kinds[0]}'
-            yield f'{slot:08x}    {self.texts[slot]}    (slot{condition})'
+            yield f'{slot:08x}    {self.shown.text_at(slot)}    (slot{condition})'
 
     def block(self, block):
-        if self.texts:
+        if self.with_code:
             label = ''.join(f'{line}\n' for line in self.instructions(block))
         else:
             label = f'{block.first:08x}, {block.words} {"word" if block.words == 1 else "words"}'
@@ -228,7 +226,7 @@ def printed(shown, run, words):
 
 
 def parsed(args=None):
-    parser = argparse.ArgumentParser(description=__doc__, formatter_class=argparse.RawDescriptionHelpFormatter)
+    parser = Parser(__doc__)
     parser.add_argument('file', metavar='FILE', help='the program')
     parser.add_argument('counts', metavar='COUNTS', nargs='?', help=TRACE_HELP)
     parser.add_argument('--routine', metavar='NAME', help='the flow graph of this routine, by its name or its address')
@@ -248,4 +246,4 @@ def main():
 
 
 if __name__ == '__main__':
-    main()
+    script(main)

@@ -69,11 +69,12 @@ class LineCounts:
 
     Where the compiler marked statements, which in optimised code may have gone elsewhere, a line is as often reached as
     the position in it that was reached most: as often as the blocks in which its marks stand, or as the most executed
-    instruction that belongs to one of its marks."""
+    instruction that belongs to one of its marks. A line of which something ran was reached, whatever its marks say."""
 
     def __init__(self, shown, run, debug):
         self.shown, self.run, self.debug, self.passes = shown, run, debug, {}
-        self.lines = {**self.executed(), **self.marked()}
+        self.lines = self.executed()
+        self.lines.update((line, count) for line, count in self.marked().items() if count or not self.lines.get(line))
         self.unsure = {debug.line_at[address] for address in run.unsure if address in debug.line_at}
 
     def times(self, address):

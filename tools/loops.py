@@ -21,24 +21,29 @@ def labels_of(routine):
     return -1 - (routine or 0)
 
 
+def completed(shown, run):
+    """The edges that were completed, and how often."""
+    return ((shown.edges[number], count) for number, count in run.edges.items() if count)
+
+
 def ways_within(shown, run):
     """Where control went within each routine, and how often; from a call it goes on behind it. Jumps through a register
     to labels of the routine lead through a place of their own, since it isn't known which leads to which."""
     ways = defaultdict(lambda: defaultdict(int))
-    for edge in shown.edges:
+    for edge, count in completed(shown, run):
         if edge.kind == 'land' and edge.target not in shown.routines and not shown.is_behind_call(edge.target):
-            ways[labels_of(shown.routine_of(edge.target))][edge.target] += run.edge(edge)
-        if edge.source is None or not run.edge(edge):
+            ways[labels_of(shown.routine_of(edge.target))][edge.target] += count
+        if edge.source is None:
             continue
         last = shown.blocks[edge.source].last()
         if edge.kind == 'call' or edge.kind == 'out' and shown.word(last) >> 25 & 31:
             for behind in (last + 8, last + 12):
                 if behind in shown.blocks and shown.is_behind_call(behind) and run.blocks[behind]:
-                    ways[edge.source][behind] += run.edge(edge)
+                    ways[edge.source][behind] += count
         elif edge.kind == 'out' and not is_return(shown.word(last)):
-            ways[edge.source][labels_of(shown.routine_of(last))] += run.edge(edge)
-        elif edge.target is not None and shown.routine_of(edge.target) == shown.routine_of(edge.source):
-            ways[edge.source][edge.target] += run.edge(edge)
+            ways[edge.source][labels_of(shown.routine_of(last))] += count
+        elif edge.target is not None and shown.routine_of(edge.target) == shown.routine_of(last):
+            ways[edge.source][edge.target] += count
     return ways
 
 
@@ -82,10 +87,10 @@ def costs_of(shown, run):
     costs = defaultdict(int)
     for first, block in shown.blocks.items():
         costs[first] = sum(run.words[address] for address in block.addresses())
-    for edge in shown.edges:
-        if edge.slot is not None and edge.source is not None and run.edge(edge):
-            costs[edge.source] += run.edge(edge)
-            costs[shown.block_of(edge.slot).first] -= run.edge(edge)
+    for edge, count in completed(shown, run):
+        if edge.slot is not None and edge.source is not None:
+            costs[edge.source] += count
+            costs[shown.block_of(edge.slot).first] -= count
     return costs
 
 

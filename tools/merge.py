@@ -4,10 +4,9 @@
 They are lines that `eel counts` printed, or `eel visits`, of edits of the same program, or what `profile.py --counts`
 kept of it. What is printed is such lines again, which the other scripts read, and which can be the weights of a profile.
 """
-import argparse
-import re
+from scripting import Parser, print_lines, read_lines, refuse, script
 
-from scripting import print_lines, read_lines, refuse
+import re
 
 EDGE = re.compile(r'(edge (\d+) \w+ \S+ \S+) (\d+)')
 WORD = re.compile(r'(word ([0-9a-f]{8})) (\d+)')
@@ -56,7 +55,7 @@ def lines_of(kind, sums, first):
 
 
 def main():
-    parser = argparse.ArgumentParser(description=__doc__, formatter_class=argparse.RawDescriptionHelpFormatter)
+    parser = Parser(__doc__)
     parser.add_argument('counts', metavar='COUNTS', nargs='+', help='what `eel counts` or `eel visits` printed')
     names = parser.parse_args().counts
     parts = [parts_of(name) for name in names]
@@ -68,4 +67,4 @@ def main():
 
 
 if __name__ == '__main__':
-    main()
+    script(main)

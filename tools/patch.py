@@ -6,9 +6,8 @@ before them or not; what begins with `#` is left out. Those that say another ins
 address are put there, and the program so changed is written as OUT. What was changed is printed. A routine's name may
 stand where a branch or a CALL leads.
 """
-from scripting import opened_for_output, print_lines, read_lines, refuse
+from scripting import Parser, opened_for_output, print_lines, read_lines, refuse, script
 
-import argparse
 import os
 import re
 import tempfile
@@ -73,7 +72,7 @@ class Patch:
 
 
 def main():
-    parser = argparse.ArgumentParser(description=__doc__, formatter_class=argparse.RawDescriptionHelpFormatter)
+    parser = Parser(__doc__)
     parser.add_argument('file', metavar='IN', help='the program')
     parser.add_argument('listing', metavar='LISTING', help='lines of instructions')
     parser.add_argument('out', metavar='OUT', help='the changed program')
@@ -87,4 +86,4 @@ def main():
 
 
 if __name__ == '__main__':
-    main()
+    script(main)

@@ -2,21 +2,22 @@
 """Says where a program spends its instructions: tools/profile.py FILE ARG..
 
 It edits the program FILE with counters, runs that with the arguments and the standard input, and prints its functions
-with the instructions that each took, the share of those and of what it called, and how often it was called; and the
-loops and lines that took most. Each instruction is counted by itself, so that all figures are exact, but for the shares
-with what is called: those are shared out among callers. What the program puts out goes to the error stream. Options
-stand before FILE; with some another script prints what was counted.
+with the instructions that each took, the share of those and of what it called, and how often it was called; the loops
+and lines that took most; and its instructions by kind. Each instruction is counted by itself, so that all figures are
+exact, but for the shares with what is called: those are shared out among callers. What the program puts out goes to the
+error stream. Options stand before FILE; with some another script prints what was counted.
 
 The status is 0 where the program exited, and 3 where it was stopped or trapped. An interrupt ends a run, of which then
 the first steps alone are profiled.
 """
-from scripting import EEL, note, opened_for_output, print_lines, read_file, read_lines, refuse, wants_built
+from scripting import (DEVICE, EEL, MISSING, Parser, note, opened_for_output, print_lines, read_all, read_file, read_lines,
+                       refuse, said_if_long, script, wants_built, why)
 
 import argparse
 import importlib
 import os
+import re
 import shutil
-import signal
 import subprocess
 import sys
 import tempfile
@@ -26,11 +27,13 @@ from collections import Counter
 
 from call_costs import POINTER_NAME
 from debug_lines import ROOT_HELP, DebugLines
-from endings import ending_of, place_of
+from endings import ending_of, place_of, stray_jump
+from instruction_mix import InstructionMix
 from loops import loops
 from runs import run_of
-from shown import NAMES_HELP, Shown, call_eel, figure, share
-from source_counts import SourceCounts, tell_limits
+from dwarf import Elf
+from shown import NAMES_HELP, Shown, call_eel, explained, figure, known, share, status_of
+from source_counts import INLINED_HELP, SourceCounts, tell_limits
 
 LIMIT = 10 ** 11
 MOST_STEPS = 100  # beyond a limit, to stand at a place
@@ -60,7 +63,7 @@ class Report:
     """The functions, loops and lines of a run."""
 
     def __init__(self, shown, run, debug):
-        self.shown, self.run, self.debug = shown, run, debug
+        self.shown, self.run, self.debug, self.paths = shown, run, debug, set()
         self.counts = SourceCounts(shown, run, debug)
         self.unsure = {shown.routine_of(address) for address in run.unsure if run.words[address]}
 
@@ -72,7 +75,7 @@ class Report:
         ranked = sorted(filter(costs.own.get, costs.own), key=lambda start: (-costs.own[start], start or 0))
         yield from table((('with calls', 11), ('calls', 12), 'function'),
                          ((self.share(costs.own[start]), figure(costs.own[start], start not in self.unsure),
-                           self.share(costs.inclusive[start]), costs.calls_of(start), self.shown.name_of(start))
+                           self.share(costs.inclusive[start]), known(costs.calls_of(start)), self.shown.name_of(start))
                           for start in ranked[:most]))
         hidden = ranked[most:] if most else []
         if hidden:
@@ -106,7 +109,8 @@ class Report:
             if count and address in self.debug.line_at:
                 taken[self.debug.line_at[address]] += count
         hottest = sorted(taken, key=lambda line: (-taken[line], line.path, line.number))[:LINES]
-        for path in {line.path for line in hottest if os.path.isfile(line.path)}:
+        self.paths = {line.path for line in hottest}
+        for path in filter(os.path.isfile, self.paths):
             texts[path] = read_lines(path)
         rows = []
         for line in hottest:
@@ -120,10 +124,16 @@ class Report:
         else:
             yield from ('', 'There are no line tables: compile it with -g to see its lines.')
 
+    def mix(self):
+        counts = InstructionMix(self.shown, self.run).counts()
+        yield from table(('kind',), ((self.share(count), figure(count, not self.run.unsure), kind)
+                                     for kind, count in counts.most_common()))
+
     def all(self, most):
         yield from self.functions(most)
         yield from self.loops()
         yield from self.lines()
+        yield from self.mix()
 
 
 def watched(words, given, stdout):
@@ -140,7 +150,7 @@ def watched(words, given, stdout):
                 if sys.stderr and sys.stderr.isatty():
                     note(f'the run has taken {told} s so far')
                 told += 10 if told < 60 else 60
-            except KeyboardInterrupt:
+            except BaseException:  # a signal, which ends the run, too
                 process.kill()
                 raise
 
@@ -150,43 +160,67 @@ class Tables(threading.Thread):
 
     def __init__(self, words):
         super().__init__(daemon=True)
-        self.words, self.ended, self.found = words, None, None
+        self.words, self.ended, self.own, self.debug, self.has_own = words, None, None, None, threading.Event()
 
     def run(self):
         try:
-            shown = Shown(self.words.file, self.words.names)
-            self.found = shown, DebugLines(shown, self.words.source_root)
+            self.own = Shown(self.words.file, self.words.names)
+            self.has_own.set()
+            self.debug = DebugLines(self.own, self.words.source_root)
         except BaseException as ended:
             self.ended = ended
+        self.has_own.set()
+
+    def shown(self):
+        """The program alone."""
+        self.has_own.wait()
+        if self.ended:
+            raise self.ended
+        return self.own
 
     def read(self):
         self.join()
-        if self.ended:
-            raise self.ended
-        return self.found
+        return self.shown(), self.debug
 
 
 class Session:
     """Edits, runs and counts of a program, in a folder of its own."""
 
-    def __init__(self, words, folder, given, tables):
-        self.words, self.folder, self.given, self.tables = words, folder, given, tables
+    def __init__(self, words, folder):
+        self.words, self.folder, self.tables, self.given, self.was_interrupted = words, folder, Tables(words), b'', False
         self.written, self.dump, self.counts = (os.path.join(folder, name) for name in ('written', 'dump', 'counts'))
 
-    def refuse(self, told):
-        """Ends the script by what `eel` said; where it could write no file the room is looked at."""
-        told = told.decode('utf-8', 'replace').strip().split('\n')[-1].removeprefix('eel: ').replace(self.dump, 'the run')
+    def refuse(self, called, output=None):
+        """Ends the script by what `eel` said; where it could write no file it is looked which."""
+        told = called.stderr.decode('utf-8', 'replace').strip().split('\n')[-1].removeprefix('eel: ')
+        told = told.replace(self.dump, 'the run')
         if 'file fault' in told:
-            told += ', which `eel --faults` explains'
+            told += f', {explained(self.words.file, told.split()[-1])}'
         elif told == 'device fault' and shutil.disk_usage(self.folder).free < 2 ** 20:
             told = f'{os.path.dirname(self.folder)}, where temporary files go, is full: TMPDIR names another folder'
-        refuse(told or 'the run failed')
+        elif told == 'device fault' and output is not None:
+            told = f'{output} can\'t be written: there is no room, or its device failed'
+        refuse(told or f'the run failed by status {called.returncode}', status_of(called))
 
     def checked(self, *words):
         called = call_eel(*words)
         if called.returncode:
-            self.refuse(called.stderr)
+            self.refuse(called)
         return called.stdout
+
+    def edit(self, tool, *weights):
+        with said_if_long('the program is edited'):
+            self.checked('edit', self.words.file, self.written, tool, *weights)
+
+    def refuse_early(self):
+        """Refuses what no run would change: lines that aren't there, and a routine of another name."""
+        self.tables.start()
+        if self.words.printer == 'lcov' and not has_lines(read_file(self.words.file)):
+            refuse(f'{self.words.file} has no line tables: compile it with -g')
+        if self.words.names or self.words.routine:
+            shown = self.tables.shown()
+            if self.words.routine and not re.fullmatch('(0x)?[0-9a-fA-F]+', self.words.routine):
+                shown.routine_called(self.words.routine)
 
     def run(self, limit, output):
         """Runs the written file; what the program put out goes on."""
@@ -194,7 +228,7 @@ class Session:
                          output)
         *own, _ = called.stderr.rstrip(b'\n').split(b'\n')
         if called.returncode:
-            self.refuse(called.stderr)
+            self.refuse(called, self.words.output or 'the error stream')
         if output != subprocess.DEVNULL and own and sys.stderr:
             sys.stderr.buffer.write(b'\n'.join(own) + b'\n')
             sys.stderr.flush()
@@ -205,18 +239,15 @@ class Session:
         try:
             self.run(limit, output)
         except KeyboardInterrupt:
-            seconds = time.monotonic() - started
+            seconds, self.was_interrupted = time.monotonic() - started, True
             limit = int(min(seconds, KEPT) * SECOND)
             note(f'interrupted after {seconds:.0f} s. Its first {limit} steps are profiled now, which takes some seconds; '
                  f'-n says how many. A second interrupt ends it.')
             self.run(limit, subprocess.DEVNULL)
         return limit
 
-    def count(self, tool, weights, output):
+    def count(self, tool, output):
         """A profile: what was counted goes to a file, and the run's ending is answered."""
-        self.checked('edit', self.words.file, self.written, tool, *weights)
-        if self.tables.ident is None:
-            self.tables.start()
         limit = self.run_or_begin(self.words.limit, output)
         reports = ['visits', 'counts'] if tool == 'every' else ['counts']
         for more in range(MOST_STEPS + 1):
@@ -225,16 +256,17 @@ class Session:
                 break
             self.run(limit + more + 1, subprocess.DEVNULL)
         if counted.returncode:
-            self.refuse(counted.stderr)
+            self.refuse(counted)
         if more:
             note(f'it stood between two places of the original after {limit} steps, and went {more} further')
-        printed = [counted.stdout, *(self.checked(report, self.written, self.dump) for report in reports[1:])]
+        with said_if_long('the counts are worked out'):
+            printed = [counted.stdout, *(self.checked(report, self.written, self.dump) for report in reports[1:])]
         try:
             with open(self.counts, 'wb') as opened:
                 opened.writelines(printed)
         except OSError as error:
-            refuse(f'{self.folder}: {error.strerror}')
-        return ending_of(read_file(self.dump))
+            refuse(f'{self.folder}: {why(error)}', DEVICE)
+        return ending_of(read_file(self.dump), self.was_interrupted)
 
 
 def program_input(name):
@@ -246,19 +278,24 @@ def program_input(name):
     if sys.stdin.isatty():
         note('reading the standard input first, to its end: press Ctrl-D, or call it with </dev/null')
     try:
-        return sys.stdin.buffer.read()
+        return read_all(sys.stdin.buffer, 'the standard input')
     except OSError as error:
-        refuse(f'the standard input: {error.strerror}')
+        refuse(f'the standard input: {why(error)}', MISSING)
 
 
-def profiled(words, session, output):
+def has_lines(file):
+    """Whether a program has line tables, or names a file that may have them."""
+    return not {'.debug_line', '.gnu_debuglink'}.isdisjoint(Elf(file).headers)
+
+
+def profiled(words, session, tool, output):
     """Profiles the program, once or twice, and answers the ending of the last run."""
-    weights = []
     if words.weights:
-        session.count('profile', [], subprocess.DEVNULL)
-        weights = [session.counts + '.weights']
-        os.rename(session.counts, weights[0])
-    return session.count('profile' if words.weights or words.edges else 'every', weights, output)
+        session.count(tool, subprocess.DEVNULL)
+        weights = session.counts + '.weights'
+        os.rename(session.counts, weights)
+        session.edit(tool, weights)
+    return session.count(tool, output)
 
 
 def told_of(ending):
@@ -266,39 +303,47 @@ def told_of(ending):
             'stopped': f'stopped {ending.steps}'}.get(ending.kind, ending.kind)
 
 
-def place_lines(shown, debug, ending, stands):
-    """Why a run ended that didn't exit, and where: the instruction, its function and its line."""
+def place_lines(words, shown, debug, run, ending, stands):
+    """Why a run ended that didn't exit, and where: the instruction, its function and its line. Where it jumped to what is
+    no code, it is told from where, or how to find that."""
+    def place(address):
+        line = debug.line_at.get(address)
+        return shown.place(address) + (f', {os.path.basename(line.path)}:{line.number}' if line else '')
+
     if ending.kind == 'exit':
         return
     yield f'{told_of(ending)}: {ending.explained()}'
     if stands is None:
         return
-    if shown.block_of(stands) is None:
-        yield f'  at {stands:08x}, which is no place in the code'
+    if shown.block_of(stands) is not None:
+        yield f'  at {place(stands)}: {shown.text_at(stands)}'
         return
-    line = debug.line_at.get(stands)
-    source = f', {os.path.basename(line.path)}:{line.number}' if line else ''
-    yield f'  at {shown.place(stands)}{source}: {shown.instructions()[stands]}'
+    yield f'  at {stands:08x}, which is no place in the code'
+    jump = stray_jump(shown, run)
+    if jump is not None:
+        yield f'  it jumped there from {place(jump)}: {shown.text_at(jump)}'
+    elif ending.kind == 'trap':
+        yield f'  from where it jumped there a trace tells: eel edit {words.file} traced trace 4, eel run traced -d dump,'
+        yield '  eel trace traced dump > edges, and annotate.py with that'
 
 
 def printed_by(words, session, shown, debug, run):
     """What another script prints of what was counted."""
     name, _ = PRINTERS[words.printer]
     options = [f'--{words.printer}'] if words.printer in ('lcov', 'callgrind', 'folded') else []
-    options += ['--source-root', words.source_root] if words.source_root and words.printer == 'annotate' else []
-    options += [part for option in ('routine', 'names') if (value := getattr(words, option))
-                for part in (f'--{option}', value)]
+    options += ['--source'] if words.source_root and words.printer == 'annotate' else []
     options += ['--code'] if words.code else []
-    script = importlib.import_module(name)
-    asked = script.parsed([*options, words.file, session.counts])
-    return script.printed(shown, run, asked, *([debug] if name == 'source_counts' else []))
+    options += ['--inlined'] if words.inlined else []
+    printer = importlib.import_module(name)
+    asked = printer.parsed([*options, 'FILE', 'COUNTS'])
+    asked.file, asked.counts, asked.names, asked.routine = words.file, session.counts, words.names, words.routine
+    return printer.printed(shown, run, asked, *([debug] if name != 'graph' else []))
 
 
 def parsed():
-    parser = argparse.ArgumentParser(description=__doc__, formatter_class=argparse.RawDescriptionHelpFormatter,
-                                     usage='%(prog)s [OPTION..] FILE [ARG..]')
+    parser = Parser(__doc__, '%(prog)s [OPTION..] FILE [ARG..]')
     parser.add_argument('file', metavar='FILE', help='the program')
-    parser.add_argument('args', metavar='ARG', nargs=argparse.REMAINDER, help='its arguments')
+    parser.add_argument('args', metavar='ARG', nargs=argparse.REMAINDER, help='its arguments').required = False
     parser.add_argument('--input', metavar='FILE', help='its input, in place of the standard input')
     parser.add_argument('--output', metavar='FILE', help='where its standard output goes, in place of the error stream')
     parser.add_argument('-n', '--limit', metavar='STEPS', type=int, default=LIMIT,
@@ -315,15 +360,19 @@ def parsed():
     printer = parser.add_mutually_exclusive_group()
     for name, (_, text) in PRINTERS.items():
         printer.add_argument(f'--{name}', dest='printer', action='store_const', const=name, help=text)
+    parser.add_argument('--inlined', action='store_true', help=INLINED_HELP)
     parser.add_argument('--routine', metavar='NAME', help='of this routine alone, with --annotate and --graph')
     parser.add_argument('--code', action='store_true', help='with instructions, with --graph')
     parser.add_argument('--names', metavar='NAMES', help=NAMES_HELP)
-    parser.add_argument('--source-root', metavar='FOLDER', help=f'{ROOT_HELP}; with --annotate their lines are printed, too')
+    parser.add_argument('--source-root', metavar='FOLDER', action='append',
+                        help=f'{ROOT_HELP}; with --annotate their lines are printed, too')
     words = parser.parse_args()
     if not 0 <= words.limit < 2 ** 64 - MOST_STEPS:
         parser.error('the limit is out of range')
     if words.routine and words.printer not in ('annotate', 'graph') or words.code and words.printer != 'graph':
         parser.error('--routine wants --annotate or --graph, and --code wants --graph')
+    if words.inlined and words.printer != 'callgrind':
+        parser.error('--inlined wants --callgrind')
     return words
 
 
@@ -331,48 +380,59 @@ def temporary_folder():
     try:
         return tempfile.TemporaryDirectory(prefix='eel-profile-', ignore_cleanup_errors=True)
     except OSError as error:
-        refuse(f'there is no folder for temporary files, which TMPDIR names: {error.strerror}')
+        refuse(f'there is no folder for temporary files, which TMPDIR names: {why(error)}', DEVICE)
 
 
 def main():
     words = parsed()
     read_file(words.file)
-    given = program_input(words.input)
-    output = opened_for_output(words.output) if words.output else sys.stderr.fileno() if sys.stderr else subprocess.DEVNULL
-    kept = opened_for_output(words.counts) if words.counts else None
+    tool = 'profile' if words.weights or words.edges else 'every'
     with temporary_folder() as folder:
-        session = Session(words, folder, given, Tables(words))
-        ending = profiled(words, session, output)
+        session = Session(words, folder)
+        session.edit(tool)
+        session.refuse_early()
+        output = opened_for_output(words.output) if words.output else sys.stderr.fileno() if sys.stderr else subprocess.DEVNULL
+        kept = opened_for_output(words.counts) if words.counts else None
+        session.given = program_input(words.input)
+        ending = profiled(words, session, tool, output)
         if kept:
-            try:
-                with kept:
-                    kept.write(read_file(session.counts))
-            except OSError as error:
-                refuse(f'{words.counts}: {error.strerror}')
-        (shown, debug), stands = session.tables.read(), place_of(read_file(session.written), ending.pc)
-        run = run_of(shown, session.counts, stands)
+            keep(kept, session.counts)
+        with said_if_long('the program and its lines are read'):
+            (shown, debug), stands = session.tables.read(), place_of(read_file(session.written), ending.pc)
+        with said_if_long('what was counted is read'):
+            run = run_of(shown, session.counts, stands)
+            places = list(place_lines(words, shown, debug, run, ending, stands))
         if words.printer:
-            for line in place_lines(shown, debug, ending, stands) if ending.kind != 'exit' else [told_of(ending)]:
+            for line in places or [told_of(ending)]:
                 note(line)
-            print_lines(printed_by(words, session, shown, debug, run))
+            with said_if_long('what is printed is worked out'):
+                lines = printed_by(words, session, shown, debug, run)
+            print_lines(lines)
         else:
-            report(words, Report(shown, run, debug), ending, stands)
+            with said_if_long('lines and loops are worked out'):
+                told = Report(shown, run, debug)
+                lines = list(told.all(None if words.all else FUNCTIONS))
+            report(words, told, ending, places, lines)
     return 0 if ending.kind == 'exit' else TRAPPED
 
 
-def report(words, told, ending, stands):
+def keep(kept, counts):
+    """Writes what was counted to a file of the caller's."""
+    try:
+        with kept:
+            kept.write(read_file(counts))
+    except OSError as error:
+        refuse(f'{kept.name}: {why(error)}', DEVICE)
+
+
+def report(words, told, ending, places, lines):
     """Prints functions, loops and lines."""
     total = figure(told.run.total, not told.run.unsure)
     heading = f'{os.path.basename(words.file)}: {told_of(ending)}, {total} instructions; with counters {ending.steps} steps'
-    places = place_lines(told.shown, told.debug, ending, stands)
-    print_lines([heading, *places, *told.all(None if words.all else FUNCTIONS)])
+    print_lines([heading, *places, *lines])
     if told.counts.lines:
-        tell_limits(told.counts, words.file)
+        tell_limits(told.counts, words.file, sorted(told.paths))
 
 
 if __name__ == '__main__':
-    signal.signal(signal.SIGTERM, lambda *_: sys.exit(143))  # so that the temporary files go
-    try:
-        sys.exit(main())
-    except KeyboardInterrupt:
-        sys.exit(130)
+    script(main)

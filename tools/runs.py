@@ -1,4 +1,5 @@
 """What `eel counts`, `visits` and `trace` print of a run, as counts of a program's words, blocks and edges."""
+import functools
 import re
 from collections import Counter, defaultdict
 
@@ -110,6 +111,10 @@ class Run:
             if edge.kind == 'out' and self.edge(edge):
                 yield self.shown.blocks[edge.source].last(), self.edge(edge)
 
+    def entries(self, address):
+        """How often control came to a word in the midst of a block, by the words before it, or None where that isn't known."""
+        return None
+
     def landings(self):
         """Each place at which control landed from such a jump, and how often."""
         for edge in self.shown.edges:
@@ -150,8 +155,11 @@ class Executions(Run):
         self.total = sum(self.words.values())
 
     def lands_within(self, block):
-        """Whether control may have come to a block by a jump behind its first word: more often than it came back there
-        from a call, or to what is neither that nor a routine's begin."""
+        """Whether control may have come to a block by a jump behind its first word: by a switch of which a case is there;
+        or more often than it came back there from a call, or to what is neither that nor a routine's begin."""
+        if any(edge.kind == 'case' and self.edge(edge) for edge in block.into) \
+                and not self.shown.cases().isdisjoint(block.addresses()[1:]):
+            return True
         landed = sum(self.edge(edge) for edge in block.into if edge.kind == 'land')
         if not landed or block.words == 1 or block.first in self.shown.routines:
             return False
@@ -164,7 +172,7 @@ class Executions(Run):
         ended = self.blocks[block.first] - sum(map(self.edge, block.out))
         if ended <= 0:
             return
-        if stands is not None and stands - 4 == block.last() and is_transfer(self.shown.word(block.last())):
+        if stands in self.words and stands - 4 == block.last() and is_transfer(self.shown.word(block.last())):
             self.words[stands] += ended  # in the slot, whose edge wasn't completed
             return
         exits = [address for address in block.addresses() if is_trap(self.shown.word(address))]
@@ -262,6 +270,18 @@ class Exact(Visits):
 
     def landings(self):
         return ((target, count) for (kind, _, target), count in self.counted.items() if kind == 'land')
+
+    def entries(self, address):
+        return self.arrivals.get(address, {})
+
+    @functools.cached_property
+    def arrivals(self):
+        """How often control came to the routines that begin within a block from each word before."""
+        found = defaultdict(Counter)
+        for (kind, source, target), count in self.counted.items():
+            if target in self.shown.inner and kind != 'land':
+                found[target][source] += count
+        return found
 
     def find_cases(self, shown, last):
         """A case has what landed at its block, if it is that of one switch alone, and if all of them come to what went

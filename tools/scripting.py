@@ -6,11 +6,21 @@ if sys.version_info < (3, 10):
     sys.exit('%s: this takes Python 3.10 or newer, and %s is Python %d.%d'
              % (os.path.basename(sys.argv[0]), sys.executable or 'python3', sys.version_info[0], sys.version_info[1]))
 
+import argparse
+import contextlib
+import errno
 import functools
+import signal
+import threading
 
 TOP = os.path.dirname(os.path.dirname(os.path.realpath(__file__)))
 EEL = os.path.join(TOP, 'eel')
-BUILT = os.path.join(TOP, 'crates', 'eel_main', 'out', 'eel_main')
+INSTALLED = os.path.join(TOP, '..', '..', 'libexec', 'eel', 'eel_main')
+BUILT = os.environ.get('EEL_PROGRAM') or (os.path.join(TOP, 'crates', 'eel_main', 'out', 'eel_main')
+                                          if os.path.isdir(os.path.join(TOP, 'crates')) else INSTALLED)
+# Statuses, as `eel` has them; but a file that is missing has that of one that is too long.
+WORDS, CONTENTS, MISSING, MEMORY, DEVICE, UNBUILT = 64, 65, 66, 70, 74, 78
+LONGEST, PIECE = 2 ** 30, 2 ** 24  # bytes of a file, and of what is read of it at a time
 
 
 def note(line):
@@ -19,25 +29,85 @@ def note(line):
         print(f'{os.path.basename(sys.argv[0])}: {line}', file=sys.stderr)
 
 
-def refuse(line, status=1):
+def refuse(line, status=CONTENTS):
     """Ends the script with one line on the error stream."""
     note(line)
     sys.exit(status)
 
 
+def end_shortly(kind, raised, trace):
+    """An interrupt ends a script without a line, by its signal, and want of memory by one line."""
+    if issubclass(kind, KeyboardInterrupt):
+        signal.signal(signal.SIGINT, signal.SIG_IGN)  # another one changes nothing
+    elif issubclass(kind, MemoryError):
+        refuse('out of memory', MEMORY)
+    else:
+        sys.__excepthook__(kind, raised, trace)
+
+
+sys.excepthook = end_shortly
+
+
+@contextlib.contextmanager
+def said_if_long(what):
+    """On a terminal it is said what is done, where that takes more than two seconds."""
+    timer = threading.Timer(2, note, [f'{what} ..'])
+    timer.daemon = True
+    if sys.stderr and sys.stderr.isatty():
+        timer.start()
+    try:
+        yield
+    finally:
+        timer.cancel()
+
+
+def script(main):
+    """Calls a script's `main`. A signal to end lets its temporary files go."""
+    for number in signal.SIGTERM, signal.SIGHUP:
+        signal.signal(number, lambda number, _: sys.exit(128 + number))
+    sys.exit(main())
+
+
+class Parser(argparse.ArgumentParser):
+    """The words of a script, whose help is the script's own text."""
+
+    def __init__(self, text, usage=None):
+        super().__init__(description=text, formatter_class=argparse.RawDescriptionHelpFormatter, usage=usage)
+
+    def error(self, message):
+        self.print_usage(sys.stderr)
+        self.exit(WORDS, f'{self.prog}: {message}\n')
+
+
 def wants_built():
     """`eel` must be built: its build takes long, of which nothing would be seen here."""
     if not (os.path.isfile(BUILT) and os.access(BUILT, os.X_OK)):
-        refuse(f'eel is not built yet: call {TOP}/build.sh first, which says how long it takes')
+        refuse(f'eel is not built yet: call {TOP}/build.py first, which says how long it takes', UNBUILT)
+
+
+def why(error):
+    """What the system says of a file that can't be had."""
+    return getattr(error, 'strerror', None) or str(error)
 
 
 def read_file(name):
     """The bytes of a file."""
     try:
         with open(name, 'rb') as opened:
-            return opened.read()
+            return read_all(opened, name)
     except (OSError, ValueError) as error:
-        refuse(f'{name}: {getattr(error, "strerror", None) or error}')
+        refuse(f'{name}: {why(error)}', DEVICE if getattr(error, 'errno', None) == errno.EIO else MISSING)
+
+
+def read_all(opened, name):
+    """All bytes of an open file, which has an end: of a device that has none it is said."""
+    pieces, left = [], LONGEST
+    while piece := opened.read(min(PIECE, left + 1)):
+        pieces.append(piece)
+        left -= len(piece)
+        if left < 0:
+            refuse(f'{name}: longer than {LONGEST} bytes', MISSING)
+    return b''.join(pieces)
 
 
 @functools.cache
@@ -52,13 +122,13 @@ def opened_for_output(name):
     try:
         return open(name, 'wb')
     except (OSError, ValueError) as error:
-        refuse(f'{name}: {getattr(error, "strerror", None) or error}')
+        refuse(f'{name}: {why(error)}', DEVICE)
 
 
 def print_lines(lines):
     """Prints lines, as many as are wanted: a reader such as `head` may stop."""
     if sys.stdout is None:
-        refuse('the standard output is closed')
+        refuse('the standard output is closed', DEVICE)
     try:
         sys.stdout.writelines(f'{line}\n' for line in lines)
         sys.stdout.flush()
@@ -66,4 +136,4 @@ def print_lines(lines):
         os.dup2(os.open(os.devnull, os.O_WRONLY), sys.stdout.fileno())
     except OSError as error:
         os.dup2(os.open(os.devnull, os.O_WRONLY), sys.stdout.fileno())
-        refuse(f'standard output: {error.strerror}')
+        refuse(f'standard output: {error.strerror}', DEVICE)

@@ -1,20 +1,25 @@
 """A program as `eel show` and `eel list` print it."""
+import array
 import bisect
+import difflib
 import functools
 import gc
 import os
 import re
 import subprocess
+import sys
 import zlib
 from collections import defaultdict
 from dataclasses import dataclass, field
 
-from scripting import EEL, note, read_file, read_lines, refuse, wants_built
+from scripting import EEL, MEMORY, WORDS, note, read_file, read_lines, refuse, wants_built
 
-from dwarf import Broken, Elf
+from dwarf import Elf
 from spelling import spelled
 
 gc.disable()  # what is made of a program stays to the end: to look through it again and again takes half the time
+OTHER_MACHINES = {3: 'Intel 386', 8: 'MIPS', 20: 'PowerPC', 21: 'PowerPC 64', 22: 'S/390', 40: 'ARM', 62: 'x86-64', 183: 'AArch64',
+                  243: 'RISC-V'}  # by the numbers in ELF headers
 NAMES_HELP = 'names of routines: lines of `nm`, an address and a name'
 
 
@@ -24,14 +29,35 @@ def call_eel(*words, given=b'', stdout=subprocess.PIPE):
     return subprocess.run([EEL, *words], input=given, stdout=stdout, stderr=subprocess.PIPE)
 
 
+def status_of(called):
+    """The status with which a script ends where a call of `eel` fails: that of the call."""
+    return called.returncode if called.returncode > 0 else MEMORY
+
+
 def eel(*words):
     """The lines that a call of `eel` prints."""
     called = call_eel(*words)
     if called.returncode:
-        told = called.stderr.decode('utf-8', 'replace').strip()
-        more = ', which `eel --faults` explains' if 'file fault' in told else ''
-        refuse(f'{told or f"eel {words[0]}: status {called.returncode}"}{more}')
+        told = called.stderr.decode('utf-8', 'replace').strip().removeprefix('eel: ')
+        more = f': {explained(words[1], told.split()[-1])}' if 'file fault' in told else ''
+        refuse(f'{told or f"eel {words[0]}: status {called.returncode}"}{more}', status_of(called))
     return called.stdout.decode('utf-8', 'replace').splitlines()
+
+
+def explained(name, code):
+    """What `eel --faults` says of a file's fault, on one line; what is for another processor has that named."""
+    machine = read_file(name)[18:20]
+    machine = int.from_bytes(machine, 'big' if read_file(name)[5:6] == b'\2' else 'little')
+    if code in ('3', '4', '7') and machine in OTHER_MACHINES:
+        return f'it is for another processor, {OTHER_MACHINES[machine]}; build it for SPARC V8'
+    rows, left, right = call_eel('--faults').stdout.decode().splitlines(), [], []
+    for row in rows:
+        if row[:4].strip() == code or left and row[:4].strip() == '' and row:
+            left.append(row[4:61].strip())
+            right.append(row[61:].strip())
+        elif left:
+            break
+    return f'it {" ".join(filter(None, left))}; {" ".join(filter(None, right))}'
 
 
 def demangled(names):
@@ -118,7 +144,7 @@ class Shown:
     """The routines, blocks, edges and switches of the program of a file, with the names of a file of `nm`, if any."""
 
     def __init__(self, name, names=None):
-        self.name, self.file, self.merged = name, read_file(name), set()
+        self.name, self.file, self.merged, self.inner = name, read_file(name), set(), set()
         if self.file[4032:4036] == b'EELN':
             refuse(f'{name} is an edited file; its original is wanted, which `eel restore {name} OUT` writes')
         self.read(eel('show', name))
@@ -175,17 +201,30 @@ class Shown:
                 yield int(words[0], 16), words[-1]
 
     def take_names(self, pairs):
-        """Gives routines names, and adds those that weren't known where a block begins, behind nops perhaps."""
+        """Gives routines names, and adds those that weren't known where a block begins, behind nops perhaps, or within one."""
         pairs = list(pairs)
         if not pairs:
             return
         firsts = {self.first_instruction(block): first for first, block in self.blocks.items()}
         pairs = [(firsts.get(address, address), name) for address, name in pairs]
-        pairs = [(first, name) for first, name in pairs if first in self.blocks]
+        pairs = [(first, name) for first, name in pairs if self.block_of(first)]
         for (address, _), name in zip(pairs, demangled(name for _, name in pairs)):
             if self.routines.get(address, 'at ').startswith('at '):
-                self.routines[address] = name
+                self.add_routine(address, name)
         self.starts = sorted(self.routines)
+
+    def add_routine(self, address, name):
+        """A routine that begins at a word, which may stand in the midst of a block: what ends by a trap isn't left there."""
+        self.routines[address] = name
+        if address not in self.blocks:
+            self.inner.add(address)
+
+    def parts_of(self, block):
+        """The routines whose words a block has, each with the addresses of these."""
+        addresses = block.addresses()
+        starts = [start for start in addresses[1:] if start in self.inner] if self.inner else []
+        for low, high in zip([block.first, *starts], [*starts, addresses.stop]):
+            yield self.routine_of(low), range(low, high, 4)
 
     def first_instruction(self, block):
         """The address of a block's first word but for nops, which stand between functions."""
@@ -195,17 +234,16 @@ class Shown:
         """Begins a routine at each SAVE at which the run landed: programs without symbols have routines where a CALL
         leads, and are called through registers elsewhere. What may still be several routines in one is merged."""
         odd, jumping = set(), set()
-        for edge in self.edges:
-            if run.edge(edge):
-                if edge.kind == 'land' and edge.target not in self.routines:
-                    first = self.first_instruction(self.blocks[edge.target])
-                    if is_save(self.word(first)):
-                        self.routines[edge.target] = f'at {first:08x}'
-                    elif not self.is_behind_call(edge.target):
-                        odd.add(edge.target)
-                elif edge.kind == 'out' and not is_call(word := self.word(self.blocks[edge.source].last())) \
-                        and not is_return(word):
-                    jumping.add(edge.source)
+        for target, _ in run.landings():
+            if target not in self.routines:
+                first = self.first_instruction(self.blocks[target]) if target in self.blocks else target
+                if is_save(self.word(first)):
+                    self.add_routine(target, f'at {first:08x}')
+                elif not self.is_behind_call(target):
+                    odd.add(target)
+        for jump, _ in run.jumps():
+            if not is_call(word := self.word(jump)) and not is_return(word):
+                jumping.add(jump)
         self.starts = sorted(self.routines)
         jumping = set(map(self.routine_of, jumping))  # by a table, perhaps
         self.merged = {start for start in map(self.routine_of, odd) if start not in jumping and self.is_unnamed(start)}
@@ -256,8 +294,17 @@ class Shown:
         found = [start for start, own in self.routines.items() if name == own or own.startswith(name + '(')]
         found = found or [start for start in self.starts if f'{start:08x}' == name.removeprefix('0x').zfill(8)]
         if len(found) != 1:
-            refuse(f'{self.name} has {"several routines" if found else "no routine"} {name}')
+            near = '' if found else self.names_near(name)
+            refuse(f'{self.name} has {"several routines" if found else "no routine"} {name}{near}', WORDS)
         return found[0]
+
+    def names_near(self, name):
+        """What may have been meant by a name: copies of it that the compiler made, or names that are nearly it."""
+        names = defaultdict(list)
+        for own in self.routines.values():
+            names[re.split('[.(]', own)[0]].append(own)
+        near = names.get(name) or [own for base in difflib.get_close_matches(name, names, 3) for own in names[base]]
+        return f'; there is {", ".join(near[:4])}' if near else ''
 
     def offset_of(self, address):
         """Where a word that is loaded at an address stands in the file, or None."""
@@ -268,8 +315,27 @@ class Shown:
 
     def word(self, address):
         """The word of the file that is loaded at an address, or None."""
+        number, rest = divmod(address - self.firsts[0], 4)
+        if 0 <= number < len(self.words) and not rest:
+            return self.words[number]
         offset = self.offset_of(address)
         return None if offset is None else int.from_bytes(self.file[offset:offset + 4], 'big')
+
+    @functools.cached_property
+    def words(self):
+        """The words of the text, as far as the file has them."""
+        offset = self.offset_of(self.firsts[0])
+        end = next((end for start, end, _ in self.loaded if start <= self.firsts[0] < end), self.firsts[0])
+        size = min(4 * len(self.holding), end - self.firsts[0]) & -4
+        words = array.array('I', b'' if offset is None else self.file[offset:offset + size])
+        if sys.byteorder == 'little':
+            words.byteswap()
+        return words
+
+    @functools.cache
+    def cases(self):
+        """The addresses to which the known switches lead, which needn't be those of blocks."""
+        return {self.word(table + 4 * number) for table, count in self.switches.values() for number in range(count)}
 
     def leads_to(self, block):
         """The addresses to which control may go from a block, calls that return and switches among them."""
@@ -302,9 +368,18 @@ class Shown:
         kinds = [edge.kind for edge in block.out if edge.slot is not None]
         return next((edge.slot for edge in block.out if edge.slot is not None), None), kinds
 
-    def instructions(self):
-        """The text of each word by its address, as assemblers write it."""
-        return {int(line[:8], 16): spelled(line[9:], self.routines.get) for line in eel('list', self.name)}
+    @functools.cached_property
+    def listed(self):
+        """The lines of `eel list`, one for each word of the text."""
+        return eel('list', self.name)
+
+    def long_text_at(self, address):
+        """The instruction at an address of the text as `eel list` writes it."""
+        return self.listed[(address - self.firsts[0]) // 4][9:]
+
+    def text_at(self, address):
+        """The same as assemblers write it."""
+        return spelled(self.long_text_at(address), self.routines.get)
 
 
 def share(part, whole):
@@ -315,3 +390,8 @@ def share(part, whole):
 def figure(count, is_sure):
     """A count, with `about` before one that may be off."""
     return str(count) if is_sure else f'about {count}'
+
+
+def known(count):
+    """A count, or what stands for one that isn't known."""
+    return '?' if count is None else str(count)

@@ -5,21 +5,21 @@ The program must be the original that was edited, with debug information (gcc -g
 prints them: `count: line: text`, `#####` where never, and `-` where there is no code. A program without line tables
 gets its functions alone. By visits, calls and branches are worked out from how often instructions ran.
 """
-from scripting import note, print_lines, read_lines, refuse
+from scripting import Parser, note, print_lines, read_lines, refuse, script
 
-import argparse
 import os
 from collections import Counter, defaultdict
 from dataclasses import dataclass
 
-from call_costs import POINTER, Call, CallCosts
-from debug_lines import OPTIMISED, ROOT_HELP, DebugLines, Line
+from call_costs import CallCosts
+from callgrind import Callgrind
+from debug_lines import OPTIMISED, ROOT_HELP, DebugLines, Line, tell_missing
 from folded import Folded
 from line_counts import LineCounts
 from runs import RUN_HELP, run_of
 from shown import NAMES_HELP, Shown, figure
 
-START = -2  # the place from which the program's start is called, in a file for callgrind
+INLINED_HELP = 'with --callgrind: tell copies by inlining as functions, which are called where they stand'
 
 
 @dataclass
@@ -28,6 +28,7 @@ class Called:
     name: str
     line: object
     calls: int
+    is_known: bool = True  # else so often its first instruction ran
 
 
 class SourceCounts:
@@ -53,8 +54,8 @@ class SourceCounts:
 
     def calls(self, function):
         copies = sum(self.entries(copy.entry, copy.words) for copy in function.copies)
-        return copies + sum(self.costs.calls_of(start) if start in self.shown.routines else self.times(start)
-                            for start in function.starts)
+        calls = (self.costs.calls_of(start) if start in self.shown.routines else None for start in function.starts)
+        return copies + sum(self.times(start) if count is None else count for start, count in zip(function.starts, calls))
 
     def called(self):
         """The functions of the debug information, and the routines that it doesn't know."""
@@ -62,8 +63,12 @@ class SourceCounts:
                      for function in self.debug.functions.values()]
         known = {start for function in self.debug.functions.values() for start in function.starts}
         code = self.shown.code()
-        return functions + [Called(self.shown.name_of(start), self.debug.line_at.get(start), self.costs.calls_of(start))
-                            for start in self.shown.starts if start not in known and start in code]
+        return functions + [self.routine(start) for start in self.shown.starts
+                            if start not in known and self.shown.block_of(start).first in code]
+
+    def routine(self, start):
+        calls, line = self.costs.calls_of(start), self.debug.line_at.get(start)
+        return Called(self.shown.name_of(start), line, self.times(start) if calls is None else calls, calls is not None)
 
     def reached(self, lines):
         """All lines; where a function's code has none of the line that names it, that one is reached by its calls."""
@@ -89,10 +94,11 @@ def is_newer(path, program):
     return os.path.isfile(path) and os.path.getmtime(path) > os.path.getmtime(program)
 
 
-def tell_limits(counts, program):
-    """Says once what may be wrong with lines."""
+def tell_limits(counts, program, paths):
+    """Says once what may be wrong with lines, and which of the sources aren't there whose lines are printed."""
     for path in filter(lambda path: is_newer(path, program), counts.sources()):
         note(f'{path} is newer than {program}: its lines may have moved')
+    tell_missing(paths)
     if counts.debug.is_optimised:
         note(f'{program} {OPTIMISED}')
 
@@ -109,7 +115,8 @@ def gcov_lines(counts):
 
 def function_lines(counts):
     for function in sorted(counts.functions, key=lambda function: -function.calls):
-        yield f'{function.calls or "#####":>9}: function {function.name}'
+        calls = function.calls or '#####' if function.is_known else '?'
+        yield f'{calls:>9}: function {function.name}'
 
 
 def branches(counts):
@@ -161,71 +168,11 @@ def lcov_lines(counts):
         yield 'end_of_record'
 
 
-class Callgrind:
-    """A profile as `callgrind` writes it: the instructions that ran, by their functions, and their calls."""
-
-    def __init__(self, counts):
-        self.counts, self.shown, self.debug, self.costs = counts, counts.shown, counts.debug, counts.costs
-        self.calls = defaultdict(list)
-        for call in self.costs.calls:
-            self.calls[call.address].append(call)
-        for start, count in self.costs.roots.items():  # which have what their callers tell, where they have some
-            if self.costs.above[start]:
-                self.calls[START].append(Call(START, START, start, count, self.costs.rest_of(start)))
-
-    def path(self, start):
-        """The file of a routine, from the current folder: callgrind_annotate takes one with a whole path for two."""
-        line = self.debug.line_at.get(start)
-        return os.path.relpath(line.path) if line else '???'
-
-    def calls_at(self, address, number):
-        """The calls of an instruction, each with what it cost."""
-        for call in self.calls[address]:
-            line = self.debug.line_at.get(call.callee)
-            yield f'cfi={self.path(call.callee)}'
-            yield f'cfn={self.costs.name_of(call.callee)}'
-            yield f'calls={call.count} {self.position(max(call.callee, 0), line.number if line else 0)}'
-            yield f'{self.position(max(address, 0), number)} {call.cost}'
-
-    def position(self, address, number):
-        return f'0x{address:08x} {number}'
-
-    def instruction(self, address, number):
-        yield f'{self.position(address, number)} {self.counts.times(address)}'
-        yield from self.calls_at(address, number)
-
-    def routine(self, start, addresses):
-        """What stands in another file than the routine begins in was inlined, and counts for the line before it."""
-        own = line = self.debug.line_at.get(start)
-        yield f'fl={self.path(start)}'
-        yield f'fn={self.shown.name_of(start)}'
-        for address in addresses:
-            here = self.debug.line_at.get(address)
-            line = here if here and own and here.path == own.path else line
-            yield from self.instruction(address, line.number if line else 0)
-        yield ''
-
-    def lines(self):
-        yield from ('# callgrind format', 'version: 1', 'creator: source_counts.py', f'cmd: {self.shown.name}',
-                    'positions: instr line', 'events: Ir', f'summary: {self.counts.run.total}', '',
-                    f'ob={os.path.abspath(self.shown.name)}')
-        routines = defaultdict(list)
-        for address, count in sorted(self.counts.run.words.items()):
-            if count:
-                routines[self.shown.routine_of(address)].append(address)
-        for start, addresses in routines.items():
-            yield from self.routine(start, addresses)
-        for start, name in ((POINTER, self.costs.name_of(POINTER)), (START, '(start of the program)')):
-            if self.calls[start]:
-                yield from ('fl=???', f'fn={name}', *self.calls_at(start, 0), '')
-        yield f'totals: {self.counts.run.total}'
-
-
 def printed(shown, run, words, debug=None):
     """The lines for a run."""
     counts = SourceCounts(shown, run, debug or DebugLines(shown, words.source_root))
     if words.callgrind:
-        return Callgrind(counts).lines()
+        return Callgrind(counts, words.inlined).lines()
     if words.folded:
         return Folded(counts.costs, run.total).lines()
     if not counts.lines:
@@ -233,21 +180,25 @@ def printed(shown, run, words, debug=None):
             refuse(f'{words.file} has no line tables: compile it with -g')
         note(f'{words.file} has no line tables (compile it with -g), so that only functions are printed')
         return function_lines(counts)
-    tell_limits(counts, words.file)
+    tell_limits(counts, words.file, counts.sources())
     return lcov_lines(counts) if words.lcov else gcov_lines(counts)
 
 
 def parsed(args=None):
-    parser = argparse.ArgumentParser(description=__doc__, formatter_class=argparse.RawDescriptionHelpFormatter)
+    parser = Parser(__doc__)
     parser.add_argument('file', metavar='FILE', help='the program')
     parser.add_argument('counts', metavar='COUNTS', help=RUN_HELP)
     form = parser.add_mutually_exclusive_group()
     form.add_argument('--lcov', action='store_true', help='print a tracefile, of which genhtml makes pages')
     form.add_argument('--callgrind', action='store_true', help='print a profile for callgrind_annotate and KCachegrind')
     form.add_argument('--folded', action='store_true', help='print stacks of calls with their costs, for flame graphs')
+    parser.add_argument('--inlined', action='store_true', help=INLINED_HELP)
     parser.add_argument('--names', metavar='NAMES', help=NAMES_HELP)
-    parser.add_argument('--source-root', metavar='FOLDER', help=ROOT_HELP)
-    return parser.parse_args(args)
+    parser.add_argument('--source-root', metavar='FOLDER', action='append', help=ROOT_HELP)
+    words = parser.parse_args(args)
+    if words.inlined and not words.callgrind:
+        parser.error('--inlined wants --callgrind')
+    return words
 
 
 def main():
@@ -257,4 +208,4 @@ def main():
 
 
 if __name__ == '__main__':
-    main()
+    script(main)

@@ -1,24 +1,55 @@
-# What `eel` adds on a terminal: how long a run has taken, which word of a command doesn't fit, and which file it is that
-# can't be read or written.
+# What `eel` adds on a terminal, or where EEL_EXPLAIN is 1: how long a run has taken, which word of a command doesn't fit,
+# which file it is that can't be read or written, and why one is refused.
 
-# Runs the program; of a run it is told each ten seconds, and later each minute, how long it has taken.
+# Runs the program, and has its status in `status`, and its line in `told` where it isn't of a run.
 run_watched() {
-    watcher=
+    told=
     if [ "$1" = run ]; then
-        {
-            told=0 wait=10
-            while sleep $wait && kill -0 $$ 2>/dev/null; do
-                told=$((told + wait))
-                echo "eel: the run has taken $told s so far" >&2
-                [ $told -lt 60 ] || wait=60
-            done
-        } </dev/null >/dev/null 3>&- &
-        watcher=$!
-        trap 'kill $watcher 2>/dev/null; exit 130' INT
+        run_timed "$@"
+    else
+        { told=$("$program" "$@" 2>&1 >&3 3>&-); } 3>&1
+        status=$?
+        [ -z "$told" ] || printf '%s\n' "$told" >&2
     fi
-    "$folder/eel_main" "$@"
+}
+
+# Runs `run`: on a terminal it is told each ten seconds, and later each minute, how long it has taken.
+run_timed() {
+    watcher=
+    if [ -t 2 ]; then
+        tell_times </dev/null >/dev/null 3>&- &
+        watcher=$!
+    fi
+    trap '[ -z "$watcher" ] || kill $watcher 2>/dev/null; tell_interrupt "$@"; exit 130' INT
+    "$program" "$@"
     status=$?
+    trap - INT
     [ -z "$watcher" ] || kill "$watcher" 2>/dev/null
+}
+
+tell_times() {
+    wait=10
+    while sleep $wait && kill -0 $$ 2>/dev/null; do
+        seconds=$(seconds_of_run)
+        [ "$seconds" -lt 5 ] || echo "eel: the run has taken $seconds s so far" >&2
+        [ "$seconds" -lt 60 ] || wait=60
+    done
+}
+
+# The processor's seconds that the program below this shell has taken: few, while it still reads its input.
+seconds_of_run() {
+    cat /proc/[0-9]*/stat 2>/dev/null | awk -v parent=$$ -v ticks="$(getconf CLK_TCK)" '
+        $2 == "(eel_main)" && $4 == parent { seconds = int(($14 + $15) / ticks) }
+        END { print seconds + 0 }'
+}
+
+tell_interrupt() {
+    for word; do
+        case $word in
+        --) break ;;
+        -d) echo "eel: interrupted: no dump was written. profile.py keeps counts of a run that is interrupted" >&2 && return ;;
+        esac
+    done
 }
 
 is_number() {
@@ -135,9 +166,67 @@ explain_device() {
     [ -z "$told" ] || printf '%s\n' "$told" | head -1
 }
 
+# The line for a file that isn't for SPARC: the processor that its header names.
+explain_machine() {
+    case $(od -A n -t u1 -j 5 -N 1 "$1" | tr -d ' ') in 1) order='$1 + 256 * $2' ;; *) order='256 * $1 + $2' ;; esac
+    case $(od -A n -t u1 -j 18 -N 2 "$1" | awk "{ print $order }") in
+    3) processor='Intel 386' ;;
+    8) processor=MIPS ;;
+    20 | 21) processor=PowerPC ;;
+    22) processor=S/390 ;;
+    40) processor=ARM ;;
+    62) processor=x86-64 ;;
+    183) processor=AArch64 ;;
+    243) processor=RISC-V ;;
+    *) return 1 ;;
+    esac
+    echo "eel: it is for another processor, $processor; build it for SPARC V8"
+}
+
+# The line for `file fault CODE` of a file, from what `eel --faults` says.
+explain_fault() {
+    case $2 in 3 | 4 | 7) explain_machine "$1" && return ;; esac
+    show_faults | awk -v code="$2" '
+        { number = substr($0, 1, 4) }
+        number ~ /[0-9]/ { on = number + 0 == code }
+        on && NF { left = left " " substr($0, 5, 57); right = right " " substr($0, 62) }
+        END { gsub(/ +/, " ", left); gsub(/ +/, " ", right); sub(/ $/, "", left); print "eel: it" left ";" right }'
+}
+
+# What `run` said, by a call of no steps: its error stream has the program's bytes, too.
+refusal_of_run() {
+    file=$2 dump=
+    shift 2
+    while [ $# -gt 0 ] && [ "$1" != -- ]; do
+        [ "$1" != -d ] || dump=$2
+        shift
+    done
+    "$program" run "$file" -n 0 ${dump:+-d "$dump"} 2>&1 >/dev/null </dev/null
+}
+
+# The lines for a file that is refused for its contents.
+explain_contents() {
+    [ "$1" != run ] || told=$(refusal_of_run "$@")
+    cause=${told#eel: }
+    name=${cause%: *}
+    case $cause in
+    *": file fault "*) explain_fault "$name" "${cause##* }" ;;
+    *": no notes") [ "$1" != run ] || wants='`run -d`'
+        echo "eel: $name was not written by \`eel edit\`; ${wants:-\`$1\`} wants such a one" ;;
+    *": no profile") echo "eel: $name was written otherwise: \`counts\` wants \`eel edit IN OUT profile\`, or \`every\`" ;;
+    *": not every word") echo "eel: $name was written otherwise: \`visits\` wants \`eel edit IN OUT every\`" ;;
+    *": no trace") echo "eel: $name was written otherwise: \`trace\` wants \`eel edit IN OUT trace K\`" ;;
+    *": bad dump at "*) echo "eel: $name is none of the files that \`eel run WRITTEN -d DUMP\` writes" ;;
+    *": dump version "* | *": made for "* | *" cells, "*) echo "eel: $name is the dump of another file's run" ;;
+    *" between places") echo "eel: the run stood in new code: run it some steps further, with another -n" ;;
+    *": edge") echo "eel: \`eel show\` prints the edges of the program" ;;
+    esac
+}
+
 explain() {
     case $status in
     64) explain_words "$@" ;;
+    65) explain_contents "$@" ;;
     74) explain_device "$@" ;;
     esac
 }
