@@ -1,9 +1,10 @@
 #!/usr/bin/env python3
 """Calls each script of tools/ in each way on programs in C, and says what came of it, a line a program.
 
-The ten programs of beside_gcov.py are built by gcc and by clang with -g at -O0, -O1 and -O2, and at -O2 with -flto,
+The eleven programs of beside_gcov.py are built by gcc and by clang with -g at -O0, -O1 and -O2, and at -O2 with -flto,
 with -gsplit-dwarf and stripped: so many lines have gcov's count, so many of the twenty hottest, and at -O0 so many
-functions callgrind's calls. `endings` are small programs that end by each trap, and `large` is a text of 200,000 words.
+functions callgrind's calls. `standing` are programs of
+crates/program_runs, `endings` small ones that end by each trap, and `large` is a text of 200,000 words.
 That takes what beside_callgrind.py takes, and llvm-14-linker-tools for -flto by clang.
 
 A call is a fault that ends by a traceback or another status, or prints nothing; and one of annotate.py or graph.py that
@@ -13,17 +14,20 @@ name a trap, or has no branches of a switch.
 """
 import os
 import re
+import shutil
 import subprocess
 import sys
 import tempfile
 from collections import Counter
 from functools import partial
 
-from beside_callgrind import ELSEWHERE, functions, natively
-from beside_gcov import ARGUMENTS, COMPILERS, LEVELS, LINK, PROGRAMS, by_gcov, call, compiled, counts, given_to, hottest
+from beside_callgrind import ELSEWHERE, functions, jump_faults, natively
+from beside_gcov import ARGUMENTS, COMPILERS, DATA, LEVELS, LINK, PROGRAMS, by_gcov, call, compiled, counts, given_to, hottest
 from called import EEL, TOP, built, needs, parser_of, read_file
+from callgrind_file import CallgrindFile
 
 BUILDS = [[level] for level in LEVELS] + [['-O2', '-flto'], ['-O2', '-gsplit-dwarf'], ['-O2', '-s']]
+STANDING = ['queens', 'dispatch']
 LARGE, TIMED, SECONDS = 'large', ['annotate.py', 'graph.py'], 5
 ENDINGS, TRAPPED = 'endings', 3
 ENDED = 0, TRAPPED
@@ -64,7 +68,7 @@ class Session:
 
     def __init__(self, program, name, has_lines):
         self.name, self.arguments, self.given = name, ARGUMENTS.get(program, []), given_to(program)
-        self.without_lines = () if has_lines else (1,)
+        self.without_lines = () if has_lines else (65,)
         self.calls, self.faults, self.slowest = 0, 0, Counter()
 
     def tool(self, script, *words, statuses=(0,)):
@@ -114,25 +118,30 @@ class Session:
                 self.total = int(total)
         limit = self.total
         printed = self.tool('profile.py', '-n', str(limit), *run, statuses=ENDED)
-        if not re.match(rf'\S+: stopped \d+, (\d+) instr', printed) or int(printed.split(', ')[1].split()[0]) > limit:
+        if not re.match(r'\S+: stopped \d+, (\d+) instr', printed) or int(printed.split(', ')[1].split()[0]) > limit:
             self.fault('-n', limit, 'has', printed.split('\n')[0])
 
-    def costs(self, printed):
-        """A profile for callgrind has all instructions, and those who aren't called come to all with what they call. No
-        function has more by itself than its calls from others cost."""
-        own, calls = callgrind_costs(printed)
-        total = int(re.search(r'^totals: (\d+)', printed, re.M)[1])
-        called, cost_of = Counter(), Counter()
-        for caller, callee, cost in calls:
-            cost_of[caller] += cost
-            if caller != callee:
-                called[callee] += cost
-        roots = {*own, *cost_of} - called.keys()
-        if sum(own.values()) != total or sum(own[name] + cost_of[name] for name in roots) != total:
-            self.fault('--callgrind has', sum(own.values()), 'of', total, 'and from', *roots)
-        for name in called:
-            if called[name] < own[name] and not any(caller == callee == name for caller, callee, _ in calls):
-                self.fault('--callgrind has', name, 'with', own[name], 'called for', called[name])
+    def costs(self, *options):
+        """A profile for callgrind has all instructions, and those who aren't called come to all with what they call, in
+        each event. No function has more by itself than its calls from others cost, and no jump is made more often than
+        its instruction ran."""
+        printed = self.tool('profile.py', '--callgrind', *options, self.name, *self.arguments, statuses=ENDED)
+        try:
+            profile = CallgrindFile(printed)
+        except (AttributeError, ValueError) as error:
+            self.fault('--callgrind', *options, error)
+            return
+        if profile.total() != profile.totals or profile.totals['Ir'] != self.total \
+                or sum(map(profile.inclusive, profile.roots()), Counter()) != profile.totals:
+            self.fault('--callgrind', *options, 'has', profile.total(), 'of', profile.totals, 'and from', *profile.roots())
+        called = Counter()
+        for caller, callee, _, costs in profile.calls:
+            called[callee] += costs['Ir'] if caller != callee else self.total
+        for name in called if not options else ():
+            if called[name] < profile.own[name]['Ir']:
+                self.fault('--callgrind has', name, 'with', profile.own[name], 'called for', called[name])
+        for fault in jump_faults(profile):
+            self.fault('--callgrind', *options, 'has', fault)
 
     def switches(self, tracefile):
         """A switch that `eel show` knows is a branch of more than two ways, if it has a line."""
@@ -141,6 +150,17 @@ class Session:
         if any(int(cases) > 2 for cases in known) and 'BRDA' in tracefile and max(ways.values()) <= 2:
             self.fault('--lcov has no switch')
 
+    def differences(self, visits, *options):
+        """Beside a run of no instructions, all instructions differ, in functions and one by one."""
+        none = f'{visits}.none'
+        with open(none, 'w') as opened:
+            opened.write(re.sub(r' visited .*', ' visited 0 visits 0', read_file(visits).decode().splitlines()[-1]) + '\n')
+        printed = self.tool('compare.py', *options, self.name, visits, none)
+        rows = re.findall(r'^ +(\d+) +(\d+|-) +([+-]\d+) .*', printed, re.M)
+        sums = sum(int(before) for before, *_ in rows) - (0 if '--instructions' in options else self.total)
+        if sums > self.total or sums < self.total and '--instructions' not in options:
+            self.fault('compare.py', *options, 'has', sums, 'of', self.total)
+
     def call_all(self):
         """Each script in each way; the lines' counts and the functions' calls are answered."""
         name, run, entry = self.name, [self.name, *self.arguments], read_file(self.name)[24:28].hex()
@@ -148,7 +168,8 @@ class Session:
         self.totals()
         for option in '--weights', '--annotate', '--source', '--graph':
             self.tool('profile.py', option, *run, statuses=ENDED)
-        self.costs(self.tool('profile.py', '--callgrind', *run, statuses=ENDED))
+        self.costs()
+        self.costs('--inlined')
         stacks = self.tool('profile.py', '--folded', *run, statuses=ENDED)
         if sum(int(line.split()[-1]) for line in stacks.splitlines()) != self.total:
             self.fault('--folded has not', self.total, 'instructions')
@@ -162,36 +183,13 @@ class Session:
         self.tool('profile.py', '--counts', kept, *run)
         for counted in edges, visits, kept:
             self.tool('merge.py', counted, counted)
-        self.tool('compare.py', name, edges, name, visits)
+        for words in [], ['--inlined'], ['--instructions'], ['--instructions', '--inlined']:
+            self.differences(visits, *words)
+        self.tool('compare.py', '--lines', name, edges, name, visits, statuses=(0, *self.without_lines))
         self.tool('check.py', name, statuses=(0, 2))
         tracefile = self.tool('profile.py', '--lcov', *run, statuses=(0, *self.without_lines))
         self.switches(tracefile)
         return counts(self.tool('source_counts.py', name, visits)), functions(tracefile)
-
-
-def callgrind_costs(printed):
-    """Each function's own cost, and its calls, by the lines for callgrind: a function is its file and its name."""
-    own, calls, path, name, callee_path, callee, is_call = Counter(), [], '', '', '', '', False
-    for line in printed.split('\n'):
-        key, _, value = line.partition('=')
-        if key == 'fl':
-            path = value
-        elif key == 'fn':
-            name = path, value
-        elif key == 'cfi':
-            callee_path = value
-        elif key == 'cfn':
-            callee = callee_path, value
-        elif key == 'calls':
-            is_call = True
-        elif line.startswith('0x'):
-            cost = int(line.split()[2])
-            if is_call:
-                calls.append((name, callee, cost))
-            else:
-                own[name] += cost
-            is_call = False
-    return own, calls
 
 
 def add(agree, build, had, wanted):
@@ -246,6 +244,16 @@ def endings(folder):
     return Counter(builds=len(STOPS), calls=calls, faults=faults)
 
 
+def standing(folder):
+    """Programs in C that stand in the repository, without debug information: they take no compiler."""
+    faults = calls = 0
+    for name in STANDING:
+        session = Session(name, shutil.copy(os.path.join(DATA, name), folder), False)
+        session.call_all()
+        faults, calls = faults + session.faults, calls + session.calls
+    return Counter(builds=len(STANDING), calls=calls, faults=faults)
+
+
 def tell(name, found):
     same = [f'{key[0]} {found[key[0], "same"]} of {both}' for key, both in found.items() if key[1] == 'both' and both]
     print(f'{name}: {found["builds"]} builds, {found["calls"]} calls, {found["faults"]} faults', *same, sep='; ')
@@ -253,14 +261,15 @@ def tell(name, found):
 
 
 def main():
-    parser, every = parser_of(__doc__), [*PROGRAMS, ENDINGS, LARGE]
+    parser, every = parser_of(__doc__), [*PROGRAMS, 'standing', ENDINGS, LARGE]
     parser.add_argument('programs', metavar='PROGRAM', nargs='*', help=f'of {", ".join(every)}; else all')
     programs, sums = parser.parse_args().programs or every, Counter()
     built(EEL)
-    needs('sparc64-linux-gnu-gcc', 'clang', 'gcc', 'gcov', 'valgrind')
+    if programs != ['standing']:
+        needs('sparc64-linux-gnu-gcc', *(['clang', 'gcc', 'gcov', 'valgrind'] if programs != [ENDINGS] else []))
     for program in programs:
         with tempfile.TemporaryDirectory() as folder:
-            found = {LARGE: large_text, ENDINGS: endings}.get(program, partial(each_build, program))(folder)
+            found = {LARGE: large_text, ENDINGS: endings, 'standing': standing}.get(program, partial(each_build, program))(folder)
         tell(program, found)
         sums.update(found)
     tell('all', sums)

@@ -1,6 +1,6 @@
 #!/usr/bin/env python3
-"""Runs the programs of programs.py by ./eel, each beside its edited file, and then random programs. Each edited file
-must have just the bytes that written.py makes, and its original again where it is restored.
+"""Runs the programs of programs.py and crashes.py by ./eel, each beside its edited file, and then random programs. Each
+edited file must have just the bytes that written.py makes, and its original again where it is restored.
 
 COUNT is how many random programs there are: 300 unless said otherwise. With --switches, they are those with switches.
 Random program number N is the same in each run. Prints a line for each answer that differs. Where a program comes to a page
@@ -15,6 +15,7 @@ import sys
 import tempfile
 
 from called import EEL, built, natural, parser_of
+from crashes import CRASHES
 from plain_count import Ended, Machine
 from programs import C_PROGRAMS, SMALL
 from random_programs import random_program
@@ -158,7 +159,7 @@ def main():
     maker, count, first = random_switches if words.switches else random_program, words.count, words.first
     faults = 0
     os.chdir(tempfile.mkdtemp())
-    programs = SMALL + C_PROGRAMS
+    programs = SMALL + CRASHES + C_PROGRAMS
     for program in programs:
         put('f', program.file())
         faults += compare_program(program)

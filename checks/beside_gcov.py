@@ -1,23 +1,22 @@
 #!/usr/bin/env python3
 """Compares the lines' counts of source_counts.py with those of gcov.
 
-Ten programs of examples/c are built by gcc and by clang with -g at -O0, -O1 and -O2, profiled by ./eel and printed by
+Eleven programs of examples/c are built by gcc and by clang with -g at -O0, -O1 and -O2, profiled by ./eel and printed by
 source_counts.py; and built for this machine at -O0 and run for gcov. Of the lines that both have it is said how many
 have the same count. That takes sparc64-linux-gnu-gcc, clang, and `gcc -m32` (the packages gcc-sparc64-linux-gnu, clang
 and gcc-12-multilib).
 """
-import argparse
 import os
 import re
 import subprocess
 import sys
 import tempfile
 
-from called import EEL, TOP, built, needs
+from called import EEL, TOP, built, needs, parser_of
 
 SOURCES, DATA = os.path.join(TOP, 'examples', 'c'), os.path.join(TOP, 'crates', 'program_runs', 'data')
 PROGRAMS = ['queens', 'fractions', 'interpreter', 'word_count', 'calculator', 'dispatch', 'samples', 'sieve',
-            'long_numbers', 'jobs']
+            'long_numbers', 'jobs', 'barriers']
 ARGUMENTS = {'sieve': ['20000']}
 LEVELS = ['-O0', '-O1', '-O2']
 HOTTEST = 20
@@ -120,7 +119,7 @@ def compare(program, folder, each):
 
 
 def main():
-    parser = argparse.ArgumentParser(description=__doc__, formatter_class=argparse.RawDescriptionHelpFormatter)
+    parser = parser_of(__doc__)
     parser.add_argument('programs', metavar='PROGRAM', nargs='*', help=f'of {", ".join(PROGRAMS)}; else all')
     parser.add_argument('--each', action='store_true', help='print each line that differs')
     words = parser.parse_args()

@@ -6,11 +6,10 @@ others to anywhere; a twentieth are CALLs to anywhere, a fortieth JMPLs, and the
 `branches` each word is a branch on a condition to anywhere, so that each is a block with two edges. Of the same words
 the file is the same each time.
 """
-import argparse
 import random
 
 from beside_qemu import access, arithmetic, operand
-from called import refuse
+from called import parser_of, refuse
 from programs import Program
 from sparc import JMPL, branch, form3
 
@@ -37,7 +36,7 @@ def word(at, words):
 
 
 def main():
-    parser = argparse.ArgumentParser(description=__doc__, formatter_class=argparse.RawDescriptionHelpFormatter)
+    parser = parser_of(__doc__)
     parser.add_argument('kind', choices=['random', 'branches'])
     parser.add_argument('words', type=int, help='how many: 1 to 1048576')
     parser.add_argument('file')

@@ -4,8 +4,8 @@
 A crate stands directly on those that its code, specs and proofs name. Its line of crates.txt has all that it stands on,
 by way of others, too, and the kit's crates as they were listed. layers.dot has an arrow to each crate that no other way
 leads to. What differs is told, a line each, and status 1 says that something does. With --write both files are put
-right (draw layers.svg again by `dot -Tsvg`): so a new crate is a line `NAME:` in crates.txt and a word in layers.dot, and a
-new dependency of a low crate is nothing but its `use`.
+right: so a new crate is a line `NAME:` in crates.txt and a word in layers.dot and layers.svg, and a new dependency of a
+low crate is nothing but its `use`.
 """
 import argparse
 import os

@@ -15,7 +15,7 @@ import sys
 import tempfile
 from dataclasses import dataclass
 
-from called import EEL, built, natural, parser_of, read_program, refuse
+from called import EEL, built, natural, parser_of, read_program
 from random_switches import near_switch, switch_words
 from sparc import JMPL, NOP, Word, branch, call
 from switches import open_switches, switches, told_apart

@@ -1,17 +1,26 @@
 #!/usr/bin/env python3
 """Calls the scripts of tools/ and checks/ with --help, and with files that aren't there, folders and junk: each must
-answer by a clear line and a status, and not by a traceback. So must profile.py with closed streams, pipes for files, and
-outputs that can't be written; and what `eel --install` puts in place must work and go again. Prints a line for each that
+answer by a clear line and its status, and not by a traceback. So must profile.py with closed streams, pipes for files, and
+outputs that can't be written; a script that is interrupted or ended; and what can't be done must be refused before the
+input is read, by a line that helps. What `eel --install` puts in place must work and go again. Prints a line for each that
 doesn't."""
 import os
+import signal
 import subprocess
 import sys
 import tempfile
+import time
+from concurrent.futures import ThreadPoolExecutor
+from itertools import chain
 
-from called import EEL, TOP, built, parser_of
+from called import EEL, TOP, built, heed_signals, parser_of
+from programs import Program
 
-PROGRAM = os.path.join(TOP, 'examples', 'three_words')
+WORDS, CONTENTS, MISSING, DEVICE = 64, 65, 66, 74
+READ_CALL = {'x86_64': '0 ', 'aarch64': '63 '}  # as /proc tells which call a process waits in
+PROGRAM, DATA = os.path.join(TOP, 'examples', 'three_words'), os.path.join(TOP, 'crates', 'program_runs', 'data')
 SHOWN = ['annotate.py', 'graph.py', 'source_counts.py']
+WANT_MORE = ['source_counts.py', 'compare.py', 'edges.py', 'patch.py']  # words than one
 TAKE_FILES = ['listing.py', 'plain_count.py', 'steps.py', 'beside_walk.py', 'beside_objdump.py', 'proof_costs.py',
               'documents.py']
 
@@ -41,23 +50,25 @@ def bad_files(folder):
 
 
 def wrong_calls(folder):
-    """Calls that must be refused."""
+    """Calls that must be refused, each with its status."""
     for path in scripts():
         name, of_tools = os.path.basename(path), os.path.dirname(path) == os.path.join(TOP, 'tools')
         if of_tools or name in TAKE_FILES:
-            yield [path, '--no-such-option']
+            yield [path, '--no-such-option'], WORDS if of_tools else True
             for bad in bad_files(folder):
-                yield [path, bad]
+                status = (CONTENTS if os.path.isfile(bad) else MISSING) if of_tools else True
+                alone = {'check.py': 1}.get(name, CONTENTS) if status == CONTENTS else status
+                yield [path, bad], WORDS if name in WANT_MORE else alone
                 if name in SHOWN:
-                    yield [path, PROGRAM, bad]
-                    yield [path, PROGRAM, '--names', bad, bad]
+                    yield [path, PROGRAM, bad], status
+                    yield [path, PROGRAM, '--names', bad, bad], status
                 if name == 'merge.py':
-                    yield [path, bad, bad]
+                    yield [path, bad, bad], status
                 if name == 'compare.py':
-                    yield [path, PROGRAM, bad, bad]
-                    yield [path, bad, PROGRAM, bad, PROGRAM]
+                    yield [path, PROGRAM, bad, bad], status
+                    yield [path, bad, PROGRAM, bad, PROGRAM], status
                 if name == 'profile.py':
-                    yield [path, '--input', bad, bad]
+                    yield [path, '--input', bad, bad], status
 
 
 def streams(folder):
@@ -65,19 +76,88 @@ def streams(folder):
     tools, counts = os.path.join(TOP, 'tools'), os.path.join(folder, 'counts')
     yield f'{tools}/profile.py --counts {counts} {PROGRAM} </dev/null', 0
     yield f'{tools}/profile.py {PROGRAM} <&-', 0
-    yield f'{tools}/profile.py {PROGRAM} </dev/null >&-', 1
+    yield f'{tools}/profile.py {PROGRAM} </dev/null >&-', DEVICE
     yield f'{tools}/profile.py {PROGRAM} </dev/null 2>&-', 0
-    yield f'{tools}/profile.py {PROGRAM} </dev/null >/dev/full', 1
+    yield f'{tools}/profile.py {PROGRAM} </dev/null >/dev/full', DEVICE
     yield f'{tools}/profile.py --all {PROGRAM} </dev/null | head -1; exit ${{PIPESTATUS[0]}}', 0
     yield f'TMPDIR={folder}/missing {tools}/profile.py {PROGRAM} </dev/null', 0
     yield f'{tools}/profile.py -n 0 {PROGRAM} </dev/null', 3
     for option in '--counts', '--output':
-        yield f'{tools}/profile.py {option} {folder}/missing/out {PROGRAM} </dev/null', 1
+        yield f'{tools}/profile.py {option} {folder}/missing/out {PROGRAM} </dev/null', DEVICE
     for script in SHOWN:
         yield f'{tools}/{script} {PROGRAM} <(cat {counts})', 0
         yield f'cat {counts} | {tools}/{script} {PROGRAM} /dev/stdin', 0
     yield f'{tools}/merge.py <(cat {counts}) {counts}', 0
     yield f'{tools}/compare.py {PROGRAM} <(cat {counts}) {PROGRAM} {counts}', 0
+
+
+def told(folder):
+    """Commands of bash in a folder, each with its status and what it must say. Where input is never given, it is refused
+    before that is read."""
+    tools, never = os.path.join(TOP, 'tools'), '< <(exec sleep 60 >/dev/null 2>&1)'
+    yield f'{tools}/profile.py --lcov {PROGRAM} {never}', CONTENTS, 'has no line tables'
+    yield f'{tools}/profile.py --annotate --routine plac {DATA}/queens {never}', WORDS, 'there is place.constprop.0'
+    yield f'{tools}/profile.py {sys.executable} {never}', CONTENTS, 'file fault'
+    yield f'{tools}/profile.py --names {folder}/text {PROGRAM} {never}', CONTENTS, 'no line of nm'
+    yield f'{tools}/profile.py --output {folder}/missing/out {PROGRAM} {never}', DEVICE, 'No such file or directory'
+    yield f'{tools}/profile.py', WORDS, 'required: FILE\n'
+    yield f'{tools}/profile.py --output /dev/full {DATA}/queens </dev/null', DEVICE, '/dev/full can\'t be written'
+    yield f'{tools}/profile.py {DATA}/jump_to_zero </dev/null', 3, 'it jumped there from 00010054'
+    yield f'cd {folder} && cp {DATA}/queens ./-dash && {tools}/profile.py --annotate -- -dash </dev/null', 0, 'place.constprop.0'
+    yield f'{tools}/check.py {sys.executable}', 1, 'another processor' if os.uname().machine == 'x86_64' else 'file fault'
+
+
+def interrupted(folder):
+    """What is wrong with the end of scripts that are interrupted, or ended by another signal, while they read or run."""
+    endless = os.path.join(folder, 'endless')
+    with open(endless, 'wb') as made:
+        made.write(Program('endless', '10800000 01000000', 0, '').file())  # a branch to itself
+    calls = [[script, PROGRAM, '/dev/stdin'] for script in SHOWN]
+    calls += [['profile.py', PROGRAM], ['merge.py', '/dev/stdin'], ['compare.py', PROGRAM, '/dev/stdin', '/dev/stdin'],
+              ['patch.py', PROGRAM, '/dev/stdin', f'{folder}/patched'], ['check.py', '/dev/stdin'], ['edges.py', '/dev/stdin', 'f'],
+              ['profile.py', '--input', '/dev/null', endless]]
+    for number in signal.SIGINT, signal.SIGTERM:
+        with ThreadPoolExecutor(len(calls)) as pool:
+            yield from filter(None, pool.map(lambda words: fault_of_end(words, number, endless in words), calls))
+
+
+def fault_of_end(words, number, runs):
+    """What is wrong with the end of a script by a signal while it reads its input, or while its program runs."""
+    with tempfile.TemporaryDirectory() as room:
+        with subprocess.Popen([f'{TOP}/tools/{words[0]}', *words[1:]], stdin=subprocess.PIPE, stdout=subprocess.PIPE,
+                              stderr=subprocess.PIPE, env={**os.environ, 'TMPDIR': room}) as begun:
+            wait_for(begun, runs)
+            begun.send_signal(number)
+            _, errors = begun.communicate()
+        profiles = runs and number == signal.SIGINT
+        status = 3 if profiles else -number if number == signal.SIGINT else 128 + number
+        if begun.returncode != status or b'Traceback' in errors or profiles != (b'interrupted' in errors):
+            return f'{" ".join(words)}: status {begun.returncode} by signal {number}: {errors.decode()}'
+        return f'{" ".join(words)}: leaves {os.listdir(room)} by signal {number}' if os.listdir(room) else None
+
+
+def content(name):
+    with open(name) as opened:
+        return opened.read()
+
+
+def wait_for(begun, runs):
+    """Waits until a script has called `eel run`, or until it stands in one call of the system, which reads its input."""
+    before = None
+    for _ in range(300):
+        time.sleep(0.2)
+        try:
+            if runs:
+                below = content(f'/proc/{begun.pid}/task/{begun.pid}/children').split()
+                if any('\0run\0' in content(f'/proc/{child}/cmdline') for child in below):
+                    return time.sleep(0.5)
+            else:
+                before, now = content(f'/proc/{begun.pid}/syscall'), before
+                if before == now and before.startswith(READ_CALL.get(os.uname().machine, '0 ')):
+                    return None
+        except OSError:
+            pass
+    return None
 
 
 def faults_installed(folder):
@@ -94,8 +174,9 @@ def faults_installed(folder):
         yield f'eel --uninstall leaves {os.listdir(prefix)}'
 
 
-def fault_of(words, refused):
-    """What is wrong with the answer to a call, or None. It is refused by a status that isn't 0, or by that number."""
+def fault_of(words, refused, told=''):
+    """What is wrong with the answer to a call, or None. It is refused by a status that isn't 0, or by that number, and says
+    what is wanted."""
     try:
         called = subprocess.run(words, stdin=subprocess.DEVNULL, capture_output=True, timeout=600)
     except subprocess.TimeoutExpired:
@@ -107,24 +188,29 @@ def fault_of(words, refused):
         return f'status {called.returncode}'
     if refused is True and not called.stderr.strip() and not called.stdout.strip():
         return 'no line'
-    return None
+    return None if told.encode() in called.stdout + called.stderr else f'it says {(called.stdout + called.stderr).decode()}'
 
 
 def main():
     parser_of(__doc__).parse_args()
+    heed_signals()
     built(EEL)
     with tempfile.TemporaryDirectory() as folder:
         calls = [([path, '--help'], False) for path in scripts()]
-        calls += [(words, True) for words in wrong_calls(folder)]
-        calls += [(['bash', '-c', command], status) for command, status in streams(folder)]
+        calls += wrong_calls(folder)
+        calls += [(['bash', '-c', command], *wanted) for command, *wanted in told(folder)]
+        in_turn = [(['bash', '-c', command], status) for command, status in streams(folder)]  # of which the first makes a file
         faults = 0
-        for fault in faults_installed(folder):
+        for fault in chain(faults_installed(folder), interrupted(folder)):
             print(fault, flush=True)
             faults += 1
-        for words, refused in calls:
-            if fault := fault_of(words, refused):
-                print(f'{" ".join(words)}: {fault}'.replace(f'{TOP}/', ''), flush=True)
-                faults += 1
+        with ThreadPoolExecutor(len(os.sched_getaffinity(0))) as pool:
+            found = chain(zip(calls, pool.map(lambda call: fault_of(*call), calls)), ((call, fault_of(*call)) for call in in_turn))
+            for (words, *_), fault in found:
+                if fault:
+                    print(f'{" ".join(words)}: {fault}'.replace(f'{TOP}/', ''), flush=True)
+                    faults += 1
+        calls += in_turn
     print(f'{len(calls)} calls, {faults} answered otherwise')
     return faults > 0
 

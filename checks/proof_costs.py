@@ -5,12 +5,10 @@ The checkout must have been built from nothing with one job for each crate, as .
 The prover keeps each module as it is proved, so a module cost the time since the one before it; what a crate loads of
 those below it counts as `start`. Where several jobs proved a crate, figures are rough.
 """
-import argparse
-import os
 import sys
 from pathlib import Path
 
-from called import TOP
+from called import TOP, parser_of
 
 
 def module_costs(crate):
@@ -27,7 +25,7 @@ def module_costs(crate):
 
 
 def main():
-    parser = argparse.ArgumentParser(description=__doc__, formatter_class=argparse.RawDescriptionHelpFormatter)
+    parser = parser_of(__doc__)
     parser.add_argument('crates', metavar='CRATE', nargs='*', help='these alone')
     parser.add_argument('--checkout', metavar='FOLDER', type=Path, default=Path(TOP), help='a checkout; else this one')
     parser.add_argument('--modules', metavar='COUNT', type=int, default=0, help='with so many of the dearest modules')

@@ -198,6 +198,7 @@ BAD_LINES = {
     b'edge 1 count %g1\n': bad_line(1, 'grammar'),
     b'edge 1 counts 0\n': bad_line(1, 'grammar'),
     b'edge 1 count 4294967296\n': bad_line(1, 'grammar'),
+    b'edge 2 add 0 1\nedge 1 top 1 %g2\n' * 8 + b'\nedge 2 keep 2 %o0\nedge 9\n': bad_line(18, 'operations'),
 }
 
 
@@ -295,6 +296,8 @@ def refusals():
     yield eel('run three_words', 0, err=b'exit 3\n')
     yield 'input_zeros 67108865', b''
     yield eel('run three_words', 66, err=b'eel: standard input: longer than 67108864 bytes\n')
+    yield eel('run out -d dump', 66, err=b'eel: standard input: longer than 67108864 bytes\n')
+    yield eel('run dump', 74, err=DEVICE_FAULT)
 
 
 def profiles():
@@ -379,7 +382,7 @@ def rows(name):
 def bad_rows():
     """Lines that are no weights of carry_loop, and why."""
     lines = rows('carry_loop').decode().splitlines(keepends=True)
-    whole, first, second, last = ''.join(lines), lines[0], lines[1], lines[-1]
+    whole, first, last = ''.join(lines), lines[0], lines[-1]
     yield 'edge 0 call 00010054 00010058 1\n' + whole, (1, 'edge')
     yield first + first + whole, (2, 'edge')
     yield 'edge 9 fall 00010054 00010058 1\n', (1, 'edge')

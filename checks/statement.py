@@ -9,14 +9,16 @@ STATEMENT.md has the files in sections, in the order in which to read them. A se
 beyond the sections before it: a row for each file, with as many lines of code as it adds. It is a fault, told in a line
 and answered by status 1, where
 - STATEMENT.md leaves out a file of a section, names one too many or twice, tells nothing of it, or has another figure
-  than the one that is counted;
+  than the one that is counted; or where of a file up to four names are meant, and others aren't, its row has others;
 - a file of specs holds definitions of the statement of `eel` and `run_words`, and others;
-- a definition of specs is named by nobody: in specs, src or proofs.
+- a definition of specs is named by nobody: in specs, src or proofs;
+- STATEMENT.md's table of notation leaves a sign out that a definition uses: a name or an operator of std and of the kit's
+  crates, or a word of the language.
 Definitions of the same text under different names are told, too, and are no fault. The figures are printed.
 
-With --write the figures are put into STATEMENT.md first. A row that has to go is taken out, and one that is missing is
-put at its section's end, where it wants a word on what to look for. --names SECTION prints the names that a section
-adds, file by file.
+With --write the figures, and the names that are meant of a file, are put into STATEMENT.md first. A row that has to go is
+taken out, and one that is missing is put at its section's end, where it wants a word on what to look for. --names SECTION
+prints the names that a section adds, file by file.
 """
 import argparse
 import os
@@ -53,6 +55,9 @@ ENDS = r'\s(){}\[\];,"@«»'      # what ends a name
 NAME = rf'(?:«[^»]*»|[^{ENDS}.]+)(?:\.(?:«[^»]*»|[^{ENDS}.]+))*'
 WORD = re.compile(rf'{NAME}|\.+(?:[^{ENDS}.]+)?|[(){{}}\[\];,@]')
 MARKS = {'abbrev', 'unfoldable', 'pattern', 'pub', 'axiom'}
+# Words of the language: what a reader of these files meets that no file declares.
+LANGUAGE = set('''abbrev unfoldable unfolding pub use module where record data let in if then else do infixl infixr infix
+specs.declared λ ← → ∷ × Type'''.split())
 SMALL = {'zero', 'suc', 'true', 'false', 'pos', 'negsuc', 'refl', 'yes', 'no', 'tt'}     # constructors
 OPEN, CLOSE = '({[', ')}]'
 
@@ -405,6 +410,13 @@ class Statement:
                 lines[item.scope.path[len('crates/'):]] += len(item.lines)
         return dict(sorted(lines.items()))
 
+    def meant(self, section, path, most=4):
+        """The names of a file that a section adds, where they are few and the file has others."""
+        own = [item for item in self.repository.items
+               if item.scope.path == f'crates/{path}' and item.kind not in ('section', 'fn')]
+        names = [item.name for item in sorted(own, key=lambda item: item.line) if item in self.sections[section]]
+        return names if len(names) <= most and len(names) < len(own) else []
+
     def figures(self):
         for title, sections in FIGURES.items():
             found = closure(root for name in sections for root in self.roots(name))
@@ -421,6 +433,21 @@ class Statement:
                 yield f'{path}: of the statement, but for {", ".join(item.name for item in outside)}'
         named = self.repository.named_by_any()
         yield from (f'{item}: named by nobody' for item in self.specs if item not in named)
+
+    def signs(self):
+        """What the statement uses of std, of the kit's crates and of the language, each with the first file that does."""
+        found, scopes = {}, {item.scope.path: item.scope for item in self.whole if item.in_specs()}
+        for item in sorted((item for item in self.whole if item.in_specs()), key=lambda item: (item.scope.path, item.line)):
+            for name in sorted(name for part in item.parts for name in item.names(part)[0]):
+                head, is_operator = name.split('.')[0], not re.search(rf'[\w{ENDS}.]', name)
+                if self.repository.named(item.scope, name) is None and (head in item.scope.imports or is_operator):
+                    found.setdefault(head or name, item.scope.path)
+        for path in sorted(scopes):
+            words = set(words_of(scopes[path].code))
+            imports = {'specs.declared' for module, _ in scopes[path].imports.values() if '.specs.declared' in module}
+            for word in LANGUAGE & (words | imports):
+                found.setdefault(word, path)
+        return found
 
     def twins(self):
         """Definitions of the same text, but for small numbers."""
@@ -464,9 +491,15 @@ class Document:
         yield 'figures', [[title] + [f'{figure:,}' for figure in figures] for title, figures in self.statement.figures()]
         for name in SECTIONS:
             files = self.statement.files(name)
-            said = {path: row[2] for row in self.rows(name) if (path := row[0].strip('`')) in files}
-            rows = [[f'`{path}`', f'{files[path]:,}', said.get(path, '')] for path in [*said, *(set(files) - set(said))]]
+            said = {path: row[2].split(' · ')[0] for row in self.rows(name) if (path := row[0].strip('`')) in files}
+            rows = [[f'`{path}`', f'{files[path]:,}', self.told(name, path, said.get(path, ''))]
+                    for path in [*said, *(set(files) - set(said))]]
             yield name, rows[:len(said)] + sorted(rows[len(said):]) + [['together', f'{sum(files.values()):,}', '']]
+
+    def told(self, section, path, about):
+        """What to look for in a file, and which of its names are meant."""
+        names = ', '.join(f'`{name}`' for name in self.statement.meant(section, path) if f'`{name}`' not in about)
+        return ' · '.join(filter(None, [about, names]))
 
     def faults(self):
         for name, wanted in self.wanted():
@@ -481,8 +514,22 @@ class Document:
                     yield f'{about} ({wanted}) is {"there twice" if found else "left out"}'
                 elif found[0][figures] != row[figures]:
                     yield f'{about} has {wanted}, not {", ".join(found[0][figures])}'
-                elif row[2:] == [''] and title != 'together':
+                elif title != 'together' and name != 'figures' and not found[0][2].split(' · ')[0]:
                     yield f'{about} is there without a word on what to look for'
+                elif found[0][2:] != row[2:]:
+                    yield f'{about} has other names that are meant: {row[2]}'
+
+    def unexplained(self):
+        """Signs that the table of notation leaves out."""
+        text = '\n'.join(self.lines)
+        told = text[text.index('\n## Notation\n'):].split('\n## ')[1]
+        spans = re.findall(r'`([^`]*)`|<code>(.*?)</code>', told)
+        spans = [(mark or code).replace('&#124;', '|') for mark, code in spans]
+        explained = {word for span in spans for word in [*span.split(), *words_of(span)]}
+        explained |= {f'◌{sign}◌' for sign in explained}
+        for sign, path in sorted(self.statement.signs().items()):
+            if sign not in explained:
+                yield f'{STATEMENT}: notation: {sign}, as in {path}, is left out'
 
     def write(self):
         for name, wanted in list(self.wanted()):
@@ -512,7 +559,7 @@ def main():
         print(f'{title}: {definitions:,} definitions, {specs:,} lines of specs, {source:,} of src, {files} files')
     for items in statement.twins():
         print(f'of the same text: {", ".join(map(repr, items))}')
-    faults = [*statement.faults(), *document.faults()]
+    faults = [*statement.faults(), *document.faults(), *document.unexplained()]
     print('\n'.join([*faults, f'{len(faults)} faults']))
     return bool(faults)
 

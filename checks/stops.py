@@ -16,6 +16,7 @@ import sys
 import tempfile
 
 from called import EEL, built, natural, parser_of, refuse
+from crashes import CRASHES
 from plain_count import Counts, Ended, Machine
 from programs import C_PROGRAMS, SMALL
 from random_programs import random_program
@@ -169,14 +170,14 @@ def parsed():
     maker.add_argument('--random', metavar='COUNT', type=natural, help='random programs, each the same in each run')
     maker.add_argument('--switches', metavar='COUNT', type=natural, help='random programs with switches')
     parser.add_argument('--first', metavar='NUMBER', type=natural, default=0, help='the number of the first of these')
-    parser.add_argument('names', metavar='NAME', nargs='*', help='programs of crates/program_runs: all unless some are named')
+    parser.add_argument('names', metavar='NAME', nargs='*', help='programs of crates/program_runs, or those of crashes.py: all unless some are named')
     return parser.parse_args()
 
 
 def main():
-    words, programs = parsed(), SMALL + C_PROGRAMS
+    words, programs = parsed(), SMALL + CRASHES + C_PROGRAMS
     if unknown := set(words.names) - {program.name for program in programs}:
-        refuse(f'{min(unknown)}: no program of crates/program_runs')
+        refuse(f'{min(unknown)}: no program of crates/program_runs or crashes.py')
     built(EEL)
     os.chdir(tempfile.mkdtemp())
     way = VISITS if words.visits else COUNTS if words.trace is None else last_edges(words.trace)
