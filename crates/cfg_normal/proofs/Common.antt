@@ -9,7 +9,7 @@ pub use Rattle.cfg_blocks.specs.Private.{marked}
 pub use Rattle.cfg_blocks.specs.declared.BlockEnd.{BlockEnd}
 pub use Rattle.cfg_blocks.specs.declared.EdgeKind.{EdgeKind}
 pub use Rattle.cfg_blocks.specs.declared.switches.Switch.{Switch}
-pub use Rattle.cfg_normal.specs.Code.{AreApart, AreOne, AreOpenIn, IsEdgeIn, IsGraph, IsNodeIn, IsOpenIn, IsSlotIn, IsTableIn}
+pub use Rattle.cfg_normal.specs.Code.{AreApart, AreOne, AreOpenIn, IsEdgeIn, IsGraph, IsNodeIn, IsOpenIn, IsSlotIn, IsTableIn, jump_number}
 pub use Rattle.cfg_normal.specs.Graph.{case_nodes, case_of, copied_edges, directed, edge_of, edges_of, is_compared, landing_at, landings_of, lands_of, node_of, once_onto, runs_slot, slot_behind, slot_on, ways_out}
 unfoldable pub use Rattle.cfg_normal.specs.Graph.{edges_in}
 pub use Rattle.cfg_normal.specs.Landings.{AreLandings, IsLanding, IsNumbered, NodeList}
@@ -30,5 +30,5 @@ pub use Rattle.std.proofs.lemmas.List.Concat.{flat_map-append}
 pub use Rattle.std.proofs.lemmas.List.Elements.{All-append, All-cons, All-filter, All-head, All-map, All-nil, All-push, All-tail, All-weaker, filter-append, filter_passes}
 pub use Rattle.std.proofs.lemmas.List.Folds.{list_any-append, list_any_at}
 pub use Rattle.std.proofs.lemmas.List.Sums.{count_by-le-length, length-filter, sum_by-cons, sum_by_push}
-pub use Rattle.std.specs.List.{All, AllPairs, filter, flat_map, list_any, sum_by}
+pub use Rattle.std.specs.List.{All, AllPairs, filter, flat_map, list_any, position, sum_by}
 pub use Rattle.std.specs.Option.{is_some, option_to_list}

@@ -1,5 +1,5 @@
 -- What is kept of a block says what the open switches do.
-use Rattle.cfg_normal.proofs.Common.{◌≡◌, ℕ, zero, suc, ◌+◌, ◌<◌, ◌≤◌, Bool, true, false, ◌||◌, List, [], ◌∷◌, ◌++◌, length, refl, ap, sym, ◌∙◌, arith, cond, inl, inr, subst, get_or, Some, ◌==◌, ◌&&◌, not, nat_lt, All, list_any, append-nil, get_or_append_left, get_or_push, length_push, list_any-append, list_any_at, or-false, ne_eqb, or_parts, cases_Bool, eq-eqb, eqb-true, or_left, Words, word_at, EdgeKind, Switch, Blocks, holding_of, Entered, marked, any_below_same, list_any-map, Node, Block, Landed, X, same_kind, directed, is_compared, AreTabled, AreTargetsIn, IsJumpOf, has_copy, is_from, is_jump_block, lands_by, noted, with_compare, IsLanding, AreOne, AreOpenIn, Open, compares_in, is_behind, is_closed, is_copied, is_tabled, jumps_in, meets_any, targets_in, words_from, nat_tests}
+use Rattle.cfg_normal.proofs.Common.{◌≡◌, ℕ, zero, suc, ◌+◌, ◌<◌, ◌≤◌, Bool, true, false, ◌||◌, List, [], ◌∷◌, ◌++◌, length, refl, ap, sym, ◌∙◌, arith, cond, inl, inr, subst, get_or, Some, None, Option, ◌==◌, ◌&&◌, not, nat_lt, All, list_any, append-nil, get_or_append_left, get_or_push, length_push, list_any-append, list_any_at, or-false, ne_eqb, or_parts, cases_Bool, eq-eqb, eqb-true, or_left, Words, word_at, EdgeKind, Switch, Blocks, holding_of, Entered, marked, any_below_same, list_any-map, Node, Block, Landed, X, same_kind, directed, is_compared, AreTabled, AreTargetsIn, IsJumpOf, has_copy, is_from, is_jump_block, lands_by, noted, with_compare, IsLanding, AreOne, AreOpenIn, Open, compares_in, is_behind, is_closed, is_copied, is_tabled, jump_number, jumps_in, meets_any, is_some, position, targets_in, words_from, nat_tests}
 use Rattle.eel_base.specs.declared.numbers.BlockNo.{BlockNo}
 use Rattle.cfg_normal.specs.declared.landings.Landing.{Landing}
 use Rattle.cfg_normal.specs.declared.landings.Landing.TheVariants.{Home, Behind, Copied}
@@ -36,6 +36,44 @@ none_jumps : (opens : List Open) (block : ℕ) (p : Open → Bool) → jumps_in 
     → list_any (λ (o : Open). (o.block == block) && p o) opens ≡ false
 none_jumps [] block p h = refl
 none_jumps (o ∷ opens) block p h = let rest = none_jumps opens block p in grind (arith, rest)
+
+-- whether some item passes
+pub some_is_any : {A : Type 0} (p : A → Bool) (xs : List A) → is_some (position p xs) ≡ list_any p xs
+some_is_any p [] = refl
+some_is_any p (x ∷ xs) = grind (arith, nat_tests, some_is_any p xs)
+
+pub jump_found : (opens : List Open) (block : ℕ) (found : Option ℕ) → found ≡ jump_number opens block
+    → is_some found ≡ jumps_in opens block
+jump_found opens block found is = ap is_some is ∙ some_is_any (λ (o : Open). o.block == block) opens
+
+pub no_number : (opens : List Open) (block : ℕ) (landing : Landing) → IsLanding opens block landing
+    → ((k : ℕ) → landing ≡ Copied k → ⊥) → None ≡ jump_number opens block
+no_number opens block landing is other = none opens (unjumped landing is other)
+  where
+    unjumped : (landing : Landing) → IsLanding opens block landing → ((k : ℕ) → landing ≡ Copied k → ⊥)
+        → jumps_in opens block ≡ false
+    unjumped Home is other = is.0
+    unjumped (Behind compare) is other = is.0
+    unjumped (Copied k) is other = absurd (other k refl)
+
+    none : (opens : List Open) → jumps_in opens block ≡ false → None ≡ jump_number opens block
+    none [] h = refl
+    none (o ∷ opens) h =
+        let parts = or_parts (o.block == block) (jumps_in opens block) h in
+        let rest = none opens parts.1 in
+        grind (arith, nat_tests, parts.0, rest)
+
+pub number_at : (opens : List Open) → AreOne opens → (block k : ℕ) → k < length opens
+    → ((d : Open) → (get_or opens k d).block ≡ block) → Some k ≡ jump_number opens block
+number_at [] one block k l at = absurd (omega arith)
+number_at (o ∷ opens) one block zero l at =
+    let here = eq-eqb o.block block (at o) in
+    grind (arith, nat_tests, here)
+number_at (o ∷ opens) one block (suc k) l at =
+    let later : jumps_in opens block ≡ true = jumps_at opens block k (omega arith) at in
+    let other : (o.block == block) ≡ false = ne_eqb o.block block (λ e. cc (one.0, later)) in
+    let rest = number_at opens one.1 block k (omega arith) at in
+    grind (arith, nat_tests, other, rest)
 
 -- a test is asked of it alone
 pub asked_at : (opens : List Open) → AreOne opens → (block k : ℕ) (p : Open → Bool) (d : Open) → k < length opens

@@ -1,10 +1,10 @@
 -- What contracts of this crate's code and laws cite beyond the statement.
-use Rattle.std.specs.Prelude.{◌≡◌, ℕ, ◌+◌, ◌<◌, ◌≤◌, true, length, slice_index, Some, false, List, [], ◌∷◌, ◌⊎◌, ◌*◌, ◌^◌}
+use Rattle.std.specs.Prelude.{◌≡◌, ℕ, ◌+◌, ◌-◌, ◌<◌, ◌≤◌, true, ◌==◌, length, slice_index, take, Option, Some, false, List, [], ◌∷◌, ◌⊎◌, ◌*◌, ◌^◌}
 use Rattle.std.specs.Option.{is_some}
-use Rattle.std.specs.List.{All, AllPairs, sum_by}
+use Rattle.std.specs.List.{All, AllPairs, flat_map, position, sum_by}
 use Rattle.eel_base.specs.CodeText.{Words, word_at}
 use Rattle.cfg_blocks.specs.declared.switches.Switch.{Switch}
-use Rattle.cfg_blocks.specs.Blocks.{Blocks}
+use Rattle.cfg_blocks.specs.Blocks.{Blocks, below}
 use Rattle.cfg_blocks.specs.Code.{AreFirsts}
 use Rattle.cfg_normal.specs.declared.Node.{Node}
 use Rattle.cfg_normal.specs.declared.Node.TheVariants.{Block, Landed, X}
@@ -12,7 +12,7 @@ use Rattle.cfg_normal.specs.Opens.{Open, jumps_in, is_copied}
 use Rattle.cfg_normal.specs.declared.Slot.{Slot}
 use Rattle.cfg_normal.specs.declared.Slot.TheVariants.{Nothing, Word, Off}
 use Rattle.cfg_normal.specs.declared.Edge.{Edge}
-use Rattle.cfg_normal.specs.Graph.{Graph, graph_of}
+use Rattle.cfg_normal.specs.Graph.{Graph, graph_of, landings_of}
 
 -- a landed copy runs the words of its block
 abbrev pub home_of : Node → Node
@@ -38,6 +38,10 @@ pub record IsOpenIn (b : Blocks) (o : Open) : Type 0 where
   pub some : 1 ≤ length o.targets
   pub targets : All (λ word. word < b.words) o.targets
 
+-- the number of the one whose jump ends the block
+abbrev pub jump_number : List Open → ℕ → Option ℕ
+jump_number opens block = position (λ (o : Open). o.block == block) opens
+
 -- each block has one of them
 abbrev pub AreOne : List Open → Type 0
 AreOne [] = Unit {0}
@@ -57,6 +61,14 @@ pub record AreOpenIn (b : Blocks) (opens : List Open) : Type 0 where
   pub entries : sum_by (λ (o : Open). length o.targets) opens ≤ b.words
 
 -- ---- what is true of each graph
+
+-- how many landings it has, which come last among its edges
+abbrev pub landing_count : Graph → ℕ
+landing_count graph = length (flat_map (landings_of graph.opens) (below (length graph.blocks.firsts)))
+
+-- the edges but for the landings
+abbrev pub edges_but_landings : Graph → List Edge
+edges_but_landings graph = take (length graph.edges - landing_count graph) graph.edges
 
 -- a node of these blocks
 abbrev pub IsNodeIn : Blocks → List Open → Node → Type 0

@@ -1,12 +1,13 @@
 -- What is kept of each block to tell where control lands there.
-use Rattle.std.specs.Prelude.{◌≡◌, ℕ, ◌<◌, true, false, nat_lt, List, length, slice_index_or}
+use Rattle.std.specs.Prelude.{◌≡◌, ℕ, ◌-◌, ◌<◌, true, false, nat_lt, List, length, slice_index_or}
 use Rattle.cfg_blocks.specs.Blocks.{Blocks}
 use Rattle.cfg_normal.specs.declared.Node.{Node}
 use Rattle.cfg_normal.specs.declared.Node.TheVariants.{Block, Landed, X}
 use Rattle.cfg_normal.specs.declared.landings.Landing.{Landing}
 use Rattle.cfg_normal.specs.declared.landings.Landing.TheVariants.{Home, Behind, Copied}
 use Rattle.cfg_normal.specs.Opens.{Open, compares_in, is_behind, jumps_in}
-use Rattle.cfg_normal.specs.Code.{AreOpenIn}
+use Rattle.cfg_normal.specs.Code.{AreOpenIn, IsGraph, landing_count}
+use Rattle.cfg_normal.specs.Graph.{Graph}
 
 -- what open switches say of a block
 abbrev pub IsLanding : List Open → ℕ → Landing → Type 0
@@ -29,6 +30,11 @@ pub record NodeList : Type 0 where
 pub record AreNodes (nodes : NodeList) (kept : List Landing) : Type 0 where
   pub opens : AreOpenIn nodes.blocks nodes.opens
   pub landings : AreLandings (length nodes.blocks.firsts) nodes.opens kept
+
+-- a graph, and how many of its edges are no landings
+pub record IsFlowGraph (graph : Graph) (ways : ℕ) : Type 0 where
+  pub is_graph : IsGraph graph
+  pub counted : ways ≡ length graph.edges - landing_count graph
 
 abbrev pub IsNumbered : ℕ → Node → Type 0
 IsNumbered count (Block block) = block.0 < count

@@ -1,9 +1,10 @@
 //! The edges of a flow graph, in the order of their numbers.
-ghost use Rattle.std.specs.Prelude.{◌≡◌, ℕ, ◌+◌, ◌*◌, ◌^◌, ◌<◌, ◌≤◌, ◌==◌, ◌++◌, length, map, slice_index, filter, IfOk, OnOk};
+ghost use Rattle.std.specs.Prelude.{◌≡◌, ℕ, ◌+◌, ◌*◌, ◌^◌, ◌<◌, ◌≤◌, ◌==◌, ◌++◌, ◌-◌, length, map, slice_index, filter, IfOk, OnOk};
 ghost use Rattle.std.specs.List.{flat_map, All};
 ghost use Rattle.cfg_blocks.specs.Blocks.{below};
 ghost use Rattle.cfg_blocks.specs.Code.{way_of};
-ghost use Rattle.cfg_normal.specs.Graph.{case_of, copied_edges, directed, edge_of, edges_in, edges_of, landing_at, landings_of, node_of, runs_slot, slot_behind, slot_on, ways_out};
+ghost use Rattle.cfg_normal.specs.Graph.{case_of, copied_edges, directed, edge_of, edges_in, edges_of, graph_of, landing_at, landings_of, node_of, runs_slot, slot_behind, slot_on, ways_out};
+ghost use Rattle.cfg_normal.specs.Code.{landing_count};
 ghost use Rattle.cfg_normal.specs.Private.{landed_once, number_in, seen_mark, unseen_case};
 ghost use Rattle.cfg_normal.specs.Landings.{IsNumbered};
 ghost use Rattle.cfg_normal.specs.Opens.{is_copied};
@@ -278,14 +279,18 @@ fn land_at_all(edges: &mut Vec<Edge>, nodes: &Nodes) -> Result<(), NoMemory>
     Ok(())
 }
 
-/// The edges: those that leave blocks, those that leave landed copies, and then the landings.
+/// The edges: those that leave blocks, those that leave landed copies, and then the landings. Beside them, how many come
+/// before the landings.
 #[tactic(auto, unfolding(crate::specs::Graph::edges_in))]
-pub(crate) fn edges_of(alloc: Global, nodes: &Nodes) -> Result<Vec<Edge>, NoMemory>
-    ensures { IfOk result (λ v. v.items ≡ edges_in nodes.now.blocks nodes.now.opens) }
+pub(crate) fn edges_of(alloc: Global, nodes: &Nodes) -> Result<(Vec<Edge>, usize), NoMemory>
+    ensures edges { IfOk result (λ r. r.0.items ≡ edges_in nodes.now.blocks nodes.now.opens) }
+    ensures ways { IfOk result (λ r. r.1
+        ≡ length r.0.items - landing_count (graph_of nodes.now.blocks nodes.now.opens)) }
 {
     let mut edges = Vec::new(alloc);
     leave_all(alloc, &mut edges, nodes)?;
     leave_copies(&mut edges, nodes)?;
+    let ways = edges.len();
     land_at_all(&mut edges, nodes)?;
-    Ok(edges)
+    Ok((edges, ways))
 }

@@ -1,11 +1,12 @@
 //! The flow graph of a text.
-ghost use Rattle.std.specs.Prelude.{◌≡◌, ◌+◌, ◌^◌, ◌<◌, ◌≤◌, length, slice_index, Some, IfOk};
+ghost use Rattle.std.specs.Prelude.{◌≡◌, ◌+◌, ◌^◌, ◌<◌, ◌≤◌, ◌-◌, length, slice_index, Some, IfOk};
 ghost use Rattle.std.specs.List.{All};
-ghost use Rattle.cfg_blocks.specs.Blocks.{block_end, end_of, holding_of, size_of};
+ghost use Rattle.std.specs.Option.{is_some};
+ghost use Rattle.cfg_blocks.specs.Blocks.{block_end, end_of, holding_of, last_word, size_of};
 ghost use Rattle.cfg_normal.specs.Graph.{graph_of, lands};
-ghost use Rattle.cfg_normal.specs.Code.{IsGraph, IsTableIn};
+ghost use Rattle.cfg_normal.specs.Code.{IsGraph, IsTableIn, edges_but_landings, jump_number};
 ghost use Rattle.cfg_normal.specs.Landings.{IsNumbered};
-ghost use Rattle.cfg_normal.specs.Opens.{is_copied, opens_of};
+ghost use Rattle.cfg_normal.specs.Opens.{is_copied, jumps_in, opens_of};
 
 use crate::edges::edges_of;
 use crate::nodes::{Nodes, nodes_of};
@@ -20,18 +21,20 @@ use std::marker::Model;
 pub struct FlowGraph {
     nodes: Nodes,
     edges: Vec<Edge>,
+    /// How many edges are no landings. The landings come behind them.
+    ways: usize,
 }
 
 impl Model for FlowGraph {
     ghost use Rattle.cfg_normal.specs.Graph.{Graph};
-    ghost use Rattle.cfg_normal.specs.Code.{IsGraph};
+    ghost use Rattle.cfg_normal.specs.Landings.{IsFlowGraph};
 
     ghost Value = { Graph };
 
     ghost view = { λ g. record { blocks = g.nodes.blocks; opens = g.nodes.opens; edges = g.edges.items } };
 
     ghost invariant = { λ g.
-        IsGraph (record { blocks = g.nodes.blocks; opens = g.nodes.opens; edges = g.edges.items }) };
+        IsFlowGraph (record { blocks = g.nodes.blocks; opens = g.nodes.opens; edges = g.edges.items }) g.ways };
 }
 
 impl FlowGraph {
@@ -42,6 +45,15 @@ impl FlowGraph {
         ensures graph { IsGraph self.now }
     {
         &self.edges
+    }
+
+    /// The edges but for the landings, which come last.
+    #[inline]
+    pub fn edges_but_landings(&self) -> &[Edge]
+        ensures edges { result.now ≡ edges_but_landings self.now }
+        ensures graph { IsGraph self.now }
+    {
+        &self.edges[..self.ways]
     }
 
     /// The open switches, in address order of their jumps.
@@ -80,6 +92,15 @@ impl FlowGraph {
         self.nodes.is_copied(b)
     }
 
+    /// The number of the open switch whose jump ends the block `b`.
+    pub fn jump_of(&self, b: BlockNo) -> Option<usize>
+        requires { b.0 < length self.now.blocks.firsts }
+        ensures number { result ≡ jump_number self.now.opens b.0 }
+        ensures found { is_some result ≡ jumps_in self.now.opens b.0 }
+    {
+        self.nodes.jump_of(b)
+    }
+
     /// How many blocks there are.
     #[inline]
     pub fn count(&self) -> u32
@@ -109,6 +130,18 @@ impl FlowGraph {
         ensures few { self.now.blocks.words ≤ 2 ^ 20 }
     {
         self.nodes.blocks.words(b)
+    }
+
+    /// The last word of the block `b`.
+    #[inline]
+    pub fn last(&self, b: BlockNo) -> WordNo
+        requires { b.0 < length self.now.blocks.firsts }
+        ensures last { result.0 ≡ last_word self.now.blocks.firsts self.now.blocks.words b.0 }
+        ensures above { slice_index self.now.blocks.firsts b.0 ≤ result.0 }
+        ensures within { result.0 < self.now.blocks.words }
+        ensures few { self.now.blocks.words ≤ 2 ^ 20 }
+    {
+        self.nodes.blocks.last(b)
     }
 
     /// How control leaves the last word of the block `b`.
@@ -160,6 +193,6 @@ pub fn graph(
     ensures { IfOk result (λ graph. graph ≡ graph_of blocks.now.blocks (opens_of text.now blocks.now switches.now)) }
 {
     let nodes = nodes_of(alloc, text, blocks, switches)?;
-    let edges = edges_of(alloc, &nodes)?;
-    Ok(FlowGraph { nodes, edges })
+    let (edges, ways) = edges_of(alloc, &nodes)?;
+    Ok(FlowGraph { nodes, edges, ways })
 }

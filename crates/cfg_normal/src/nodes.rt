@@ -6,7 +6,7 @@ ghost use Rattle.cfg_normal.specs.Graph.{directed, lands_of};
 ghost use Rattle.cfg_normal.specs.Private.{is_from, AreTargetsIn, IsJumpOf};
 ghost use Rattle.cfg_normal.specs.Landings.{IsLanding, IsNumbered};
 ghost use Rattle.cfg_normal.specs.Opens.{is_copied, jumps_in, opens_of, Open};
-ghost use Rattle.cfg_normal.specs.Code.{AreOpenIn, IsTableIn};
+ghost use Rattle.cfg_normal.specs.Code.{AreOpenIn, IsTableIn, jump_number};
 ghost use Rattle.cfg_normal.specs.declared.Node.TheVariants.{Block};
 
 use crate::landings::{Landing, has_copy, landing_of, lands_there};
@@ -94,6 +94,7 @@ impl Nodes {
     /// The number of the open switch whose jump ends the block.
     pub(crate) fn jump_of(&self, block: BlockNo) -> Option<usize>
         requires { block.0 < length self.now.blocks.firsts }
+        ensures number { result ≡ jump_number self.now.opens block.0 }
         ensures jump { MatchOption result (jumps_in self.now.opens block.0 ≡ false) (IsJumpOf self.now.opens block.0) }
         ensures opens { AreOpenIn self.now.blocks self.now.opens }
     {

@@ -17,7 +17,7 @@ pub use Rattle.cfg_blocks.specs.declared.switches.Switch.{Switch}
 pub use Rattle.cfg_blocks.specs.declared.switches.Value.{Value}
 pub use Rattle.cfg_normal.proofs.GraphFacts.{edges_of-few, flat_few, targets_few, total_flat, total_le, ways_out-few}
 unfoldable pub use Rattle.cfg_normal.proofs.GraphFacts.{entries_of, total}
-pub use Rattle.cfg_normal.specs.Code.{IsEdgeIn, IsGraph, IsNodeIn, IsSlotIn, home_of, AreOne, AreOpenIn, IsOpenIn, IsTableIn}
+pub use Rattle.cfg_normal.specs.Code.{IsEdgeIn, IsGraph, IsNodeIn, IsSlotIn, home_of, AreOne, AreOpenIn, IsOpenIn, IsTableIn, edges_but_landings, jump_number}
 pub use Rattle.cfg_normal.specs.Graph.{Graph, directed, edge_of, graph_of, has_cases, is_compared, lands, node_of, landings_of}
 unfoldable pub use Rattle.cfg_normal.specs.Graph.{edges_in}
 pub use Rattle.cfg_normal.specs.Nodes.{same_kind, same_node}
@@ -73,11 +73,11 @@ pub use Rattle.image_code.specs.Fit.{AreFit, AreShort, is_mark, marks_in, operat
 pub use Rattle.image_code.specs.Graphs.{case_table, IsGraphOf, opens_in}
 pub use Rattle.image_code.specs.Images.{AtPointBy, AtVisit, EditorData, HasImages, HasNoCases, IsBeside, IsPlaced, Pieces, place_by, slot_piece}
 pub use Rattle.image_code.specs.Keeping.{AreCaseTables}
-pub use Rattle.image_code.specs.Labels.{along_case, along_number, Case, case_numbers, case_piece, cases_of, edges_but_landings, enter_number, entering, entry_label, entry_labels, first_entry, Foreign, foreign_number, Image, image_number, jump_number, Label, Landing, landing_number, node_in_order, or_zero, same_label, switch_at, switch_labels, way_piece}
+pub use Rattle.image_code.specs.Labels.{along_case, along_number, Case, case_numbers, case_piece, cases_of, enter_number, entering, entry_label, entry_labels, first_entry, Foreign, foreign_number, Image, image_number, Label, Landing, landing_number, node_in_order, or_zero, same_label, switch_at, switch_labels, way_piece}
 unfoldable pub use Rattle.image_code.specs.Labels.{piece_labels}
 pub use Rattle.image_code.specs.Loads.{first_operand, is_place, loads_by, or_first, second_operand}
 unfoldable pub use Rattle.image_code.specs.Loads.{load_of}
-pub use Rattle.image_code.specs.Lookups.{AreFirst, AreFirstEdges, AreFirstImages, AreFound, AreLookups, AreSwitchesNoted, block_of, first_mark, image_after, image_noted, is_case, is_edge_at, is_land, is_load, IsReached, IsSource, IsWordOf, jump_place, loads_at, mark_at, mark_of, node_of_edge, number_where, open_begin, or_word, pieces_of, place_in_order, same_case, saved_before, saved_by, StandsInText}
+pub use Rattle.image_code.specs.Lookups.{AreFirstEdges, AreFirstImages, AreFound, AreLookups, AreSwitchesNoted, block_of, first_mark, image_after, image_noted, is_case, is_edge_at, is_land, is_load, IsReached, IsSource, IsWordOf, loads_at, mark_at, mark_of, node_of_edge, number_where, open_begin, or_word, pieces_of, place_in_order, same_case, saved_before, saved_by, StandsInText}
 unfoldable pub use Rattle.image_code.specs.Lookups.{load_after}
 pub use Rattle.image_code.specs.Made.{distance_of, first_word, image, image_by, jumps_at, lands_at, next_at, nop_word, piece_list, PiecesMakeImages, save_by, shape_of, way_along, way_by, way_out, way_shape}
 unfoldable pub use Rattle.image_code.specs.Made.{shape_list}

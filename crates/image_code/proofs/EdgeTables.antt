@@ -1,5 +1,5 @@
 -- Where an item first stands in a list; the tables that say so, of edges and of open switches.
-use Rattle.image_code.proofs.Common.{◌≡◌, ℕ, suc, ◌+◌, ◌<◌, Bool, ◌&&◌, ◌==◌, List, [], ◌∷◌, ◌++◌, Option, Some, length, length-take, take, refl, ap, ◌∙◌, arith, inl, inr, cases_Bool, if◌then◌else◌, list_any, slice_index_or, position, option_or, option_to_list, nat_tests, take_more, All, Words, BlockNo, EdgeKind, Edge, Node, Block, Graph, IsEdgeIn, IsNodeIn, same_kind, same_node, node_number, edge_along, same_kinds, is_some, and-false, kind_number, Coded-set, coded_list, coded_ℕ, ∥∥₁_elim, AreFound, first_mark, number_where, is_case, is_edge_at, is_land, mark_at, mark_of, node_of_edge}
+use Rattle.image_code.proofs.Common.{◌≡◌, ℕ, suc, ◌+◌, ◌<◌, Bool, ◌&&◌, ◌==◌, List, [], ◌∷◌, ◌++◌, Option, Some, length, length-take, take, refl, ap, ◌∙◌, arith, inl, inr, cases_Bool, if◌then◌else◌, slice_index_or, position, option_or, option_to_list, nat_tests, take_more, All, Words, BlockNo, EdgeKind, Edge, Node, Block, Graph, IsEdgeIn, IsNodeIn, same_kind, same_node, node_number, edge_along, same_kinds, and-false, kind_number, Coded-set, coded_list, coded_ℕ, ∥∥₁_elim, AreFound, first_mark, number_where, is_case, is_edge_at, is_land, mark_at, mark_of, node_of_edge}
 use Rattle.cfg_blocks.specs.declared.EdgeKind.TheVariants as kinds
 use Rattle.cfg_normal.specs.Landings.{IsNumbered}
 use Rattle.image_code.specs.declared.lookups.Lookups.{Lookups}
@@ -20,11 +20,6 @@ module _ {A : Type 0} (p : A → Bool) where
   positions_more xs n d was now l held next =
       let many : length (take n xs) ≡ n = omega (arith, length-take n xs) in
       rw (next, held, take_more xs n d l, position_more (take n xs) (slice_index_or xs n d), many)
-
-  -- whether there is one
-  pub some_is_any : (xs : List A) → is_some (position p xs) ≡ list_any p xs
-  some_is_any [] = refl
-  some_is_any (x ∷ xs) = grind (arith, nat_tests, some_is_any xs)
 
 -- two tests that agree on all items
 position-same : {A : Type 0} (P : A → Type 0) (p q : A → Bool) (xs : List A) → All P xs

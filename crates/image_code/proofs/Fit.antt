@@ -4,11 +4,12 @@ use Rattle.image_code.proofs.Common.{[], range_with_len, map-append, ◌≡◌, 
 use Rattle.v8_decode.specs.declared.Instr.TheVariants as i
 use Rattle.cfg_blocks.specs.declared.EdgeKind.TheVariants as kinds
 use Rattle.layout.specs.declared.items.Item.TheVariants as it
+use Rattle.cfg_normal.specs.Code.{edges_but_landings}
 use Rattle.cfg_normal.specs.declared.Slot.{Slot}
 use Rattle.cfg_normal.specs.declared.Slot.TheVariants as slots
 use Rattle.image_code.specs.declared.shape.Exit.TheVariants as exits
 use Rattle.image_code.specs.declared.shape.Head.TheVariants as heads
-use Rattle.image_code.specs.Labels.{Case, Spare, Image, Label, Landing, Way, entry_label, entry_labels, switch_labels, edges_but_landings, enter_number, foreign_number, node_in_order, piece_labels, place_in}
+use Rattle.image_code.specs.Labels.{Case, Spare, Image, Label, Landing, Way, entry_label, entry_labels, switch_labels, enter_number, foreign_number, node_in_order, piece_labels, place_in}
 use Rattle.image_code.specs.Made.{way_shape, case_by, choice_of, first_way, first_word, goes_on, image_by, jump_by, jump_image_by, jumps_at, save_by, next_at, nop_word, piece_list, shape_list, shape_of, unused, visit_of, way_by, way_out}
 use Rattle.image_code.proofs.Listed.{count_is, number_below, way_stands, switch_in, load_in}
 use Rattle.image_code.proofs.OpenNumbers.{Leaves, found_below, number_of_list, Goes, case_reaches, ordered_number, case_number_below, each_index, enter_below, first_word_of, foreign_is, lands_below, lands_word}

@@ -1,13 +1,14 @@
 -- Where the image of a word at a node stands, and where control enters it.
 use Rattle.image_code.proofs.Common.{◌≡◌, ℕ, suc, ◌+◌, ◌-◌, ◌<◌, ◌≤◌, true, false, Bool, Some, None, List, [], ◌∷◌, length, refl, ap, sym, ◌∙◌, arith, subst, inl, inr, if◌then◌else◌, ◌==◌, nat_lt, slice_get, slice_index, list_any, find, cases_Bool, cases_eq, eq-eqb, eqb-true, ne_eqb, le-ltb, nat_tests, Words, Blocks, block_end, holding_of, size_of, Node, Block, Landed, X, home_of, IsNodeIn, IsIn, Open, jumps_in, Graph, graph_of, block, copy, compares_in, in_held, or-false, load_of, open_begin, image, jumps_at, shape_list, shape_of}
-use Rattle.image_code.specs.Labels.{Image, Label, Save, entering, enter_number, image_number, number_of, jump_number, node_in_order, piece_labels, switch_at}
+use Rattle.cfg_normal.specs.Code.{jump_number}
+use Rattle.image_code.specs.Labels.{Image, Label, Save, entering, enter_number, image_number, number_of, node_in_order, piece_labels, switch_at}
 use Rattle.image_code.proofs.Listed.{compare_stands, image_stands, jump_of, load_stands, number_is, ordered_stands, save_stands, shape_at}
 use Rattle.image_code.proofs.OpenBlocks.{IsTextGraph}
 use Rattle.image_code.proofs.Positions.{StandsIn, placed}
 
 -- the open switch whose jump ends the block
 pub jump_numbered : (text : Words) (b : Blocks) (opens : List Open) (k : ℕ) → jumps_in opens k ≡ true
-    → (j : ℕ) × (o : Open) × (jump_number text (graph_of b opens) o.block ≡ Some j) × (slice_get opens j ≡ Some o)
+    → (j : ℕ) × (o : Open) × (jump_number opens o.block ≡ Some j) × (slice_get opens j ≡ Some o)
     × (o.block ≡ k)
 jump_numbered text b opens k e =
     let found = placed (λ (o : Open). o.block == k) opens e in

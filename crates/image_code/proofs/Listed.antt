@@ -1,6 +1,7 @@
 -- Where the label of each piece stands, and so which piece has which number.
 use Rattle.image_code.proofs.Common.{[], cases_lt, le-ltb, lt-ltb, false_from_ne_true, and-false, get_or, slice_get-get_or, slice_get_within, ◌≡◌, ℕ, suc, ◌+◌, ◌-◌, ◌<◌, ◌≤◌, true, false, ◌&&◌, Some, List, ◌∷◌, ◌++◌, length, map, length-append, refl, ap, sym, ◌∙◌, arith, inl, inr, ◌==◌, if◌then◌else◌, nat_lt, slice_get, slice_index, flat_map, eqb-true, eq-eqb, false≢true, ne_eqb, length-map, length-range_with_len, slice_get-map, range_with_len, Words, Blocks, below, size_of, length-below, Node, Open, jumps_in, Graph, same_node, same_itself, block, copy, take-length, each_at, some_words, same_Some, load_of, open_begin, pieces_of, shape_list, shape_of, nat_tests, enumerate_from, length-enumerate_from, sum_by, take}
-use Rattle.image_code.specs.Labels.{or_zero, Label, Case, Foreign, Image, Landing, Save, Way, edges_but_landings, entry_label, entry_labels, first_entry, labels_in_order, node_in_order, number_of, piece_labels, place_in, same_label, switch_labels}
+use Rattle.cfg_normal.specs.Code.{edges_but_landings}
+use Rattle.image_code.specs.Labels.{or_zero, Label, Case, Foreign, Image, Landing, Save, Way, entry_label, entry_labels, first_entry, labels_in_order, node_in_order, number_of, piece_labels, place_in, same_label, switch_labels}
 use Rattle.image_code.proofs.OpenBlocks.{IsSwitchIn, IsTextGraph}
 use Rattle.image_code.proofs.Positions.{IsNew, Sized, StandsIn, any_at, before, behind, flat_count, news, past_range, numbered_get, placed, stands_at, stands_below, stands_in_all, stands_in_range}
 

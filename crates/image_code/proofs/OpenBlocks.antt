@@ -1,7 +1,6 @@
 -- What is known of the graph of a text with its open switches: where their blocks lie, that no two share one, and so
 -- how many words, entries and edges there are.
 use Rattle.image_code.proofs.Common.{[], ◌≡◌, ℕ, zero, suc, ◌+◌, ◌-◌, ◌*◌, ◌<◌, ◌≤◌, true, false, ◌==◌, Option, Some, None, List, ◌∷◌, ◌++◌, length, map, refl, ap, sym, ◌∙◌, subst, arith, if◌then◌else◌, slice_get, slice_index, flat_map, sum_by, option_to_list, cond_both, eq-eqb, false≢true, nat_tests, length-append, length-map, sum_by-cons, Words, IsText, decode_of, is_transfer, within, Blocks, below, blocks_of, end_of, holding_of, last_word, size_of, entered_of, is_jump, get_or-below, length-below, Edge, Node, same_kind, IsEdgeIn, Open, jumps_in, targets_in, Graph, edges_in, graph_of, IsCut, cut, block, copy, ends_within, some_words, Each, each, each-append, each-below, each_at, IsOpenSwitch, opens_are, All, get_or-map, BlockEnd, Way, number_of, is_copied, edge_of, is_held, each-map, each-then, about, filter, or_parts, count_by-le-length, length-filter, Switch, is_among, Entered, ways_from, switch_of, switches_of, targets_within, AreOne, AreOpenIn, IsOpenIn, IsTableIn, edges_of-few, entries_of, flat_few, targets_few, total, total_flat, total_le, ways_out-few, ends_at_next, ends_at_words, each-flat_map, each_in, edges_lie_in, IsOwn, ways_are_own, load_of, or_zero, edges_but_landings, IsGraphOf, opens_in, cases_lt, inl, inr, zero-add, find, range_with_len, or_first, loads_by, StandsInText, length-take}
-use Rattle.image_code.specs.Labels.{landing_count}
 use Rattle.cfg_blocks.specs.declared.BlockEnd.TheVariants as ends
 use Rattle.cfg_blocks.specs.declared.EdgeKind.TheVariants as kinds
 use Rattle.std.proofs.lemmas.List.{take_at}
@@ -10,6 +9,7 @@ use Rattle.cfg_blocks.specs.Arrivals.{entered_in}
 use Rattle.cfg_blocks.specs.Values.{instr_at}
 use Rattle.cfg_blocks.proofs.Agreement.{entered_alike}
 use Rattle.cfg_normal.specs.Graph.{case_of, copied_edges, edges_of, landing_at, landings_of, ways_out}
+use Rattle.cfg_normal.specs.Code.{landing_count}
 use Rattle.cfg_normal.proofs.Candidates.{opens_are as open_in_blocks}
 use Rattle.jump_slice.proofs.Parts.{switch_of-is, table_in}
 use Rattle.switch_runs.proofs.Into.{leads_in}

@@ -1,14 +1,15 @@
 -- How many pieces there are, and their numbers, as the code finds them: all are below that.
-use Rattle.image_code.proofs.Common.{[], ◌≡◌, ℕ, suc, ◌+◌, ◌*◌, ◌<◌, ◌≤◌, Some, List, ◌∷◌, length, refl, ap, sym, ◌∙◌, arith, block_end, slice_get, slice_index, sum_by, flat_map, cond_both, Words, block, holding_of, Node, Block, Landed, X, Open, Graph, lands, IsNodeIn, in_held, is_held, some_words, ends_within, Each, each-append, each-map, each_at, lands_as, Op, take-length, lands_in, Case, Foreign, Landing, Label, case_numbers, case_piece, cases_of, enter_number, entering, foreign_number, landing_number, edges_but_landings, piece_labels, IsReached, IsWordOf, pieces_of, first_word, lands_at, ◌==◌, nat_tests, is_some, None, subst, Option, ◌-◌, Bool, true, false, inl, inr, ◌&&◌, if◌then◌else◌, nat_lt, and_parts, cases_Bool, cases_eq, ne_eqb, le-ltb, option_to_list, position, slice_get_within, Blocks, size_of, EdgeKind, Edge, jumps_in, is_copied, copy, edge_from, edge_along, same_kind, same_node, same_kinds, same_nodes, Coded-set, coded_bool, le_prop, ×_prop, Unit-prop, get_or-set_same, get_or-set_other, load_of, AreFirst, AreFirstImages, jump_place, mark_of, AreSwitchesNoted, IsSource, saved_before, image_after, image_noted, saved_by, open_begin, place_in_order, slice_index_or, sum_by_more, first_entry, take, same_Some}
+use Rattle.image_code.proofs.Common.{[], ◌≡◌, ℕ, suc, ◌+◌, ◌*◌, ◌<◌, ◌≤◌, Some, List, ◌∷◌, length, refl, ap, sym, ◌∙◌, arith, block_end, slice_get, slice_index, sum_by, flat_map, cond_both, Words, block, holding_of, Node, Block, Landed, X, Open, Graph, lands, IsNodeIn, in_held, is_held, some_words, ends_within, Each, each-append, each-map, each_at, lands_as, Op, take-length, lands_in, Case, Foreign, Landing, Label, case_numbers, case_piece, cases_of, enter_number, entering, foreign_number, landing_number, edges_but_landings, piece_labels, IsReached, IsWordOf, pieces_of, first_word, lands_at, ◌==◌, nat_tests, is_some, None, subst, Option, ◌-◌, Bool, true, false, inl, inr, ◌&&◌, if◌then◌else◌, nat_lt, and_parts, cases_Bool, cases_eq, ne_eqb, le-ltb, option_to_list, position, slice_get_within, Blocks, size_of, EdgeKind, Edge, jumps_in, is_copied, copy, edge_from, edge_along, same_kind, same_node, same_kinds, same_nodes, Coded-set, coded_bool, le_prop, ×_prop, Unit-prop, get_or-set_same, get_or-set_other, load_of, AreFirstImages, AreSwitchesNoted, IsSource, saved_before, image_after, image_noted, saved_by, open_begin, place_in_order, slice_index_or, sum_by_more, first_entry, take, same_Some}
 use Rattle.image_code.proofs.ImageNumbers.{has_image, listed, not_found, compare_numbered, entry_stands, jump_numbered, ordered_enters, switch_found, not_switched}
 use Rattle.image_code.proofs.Listed.{case_stands, foreign_stands, landing_stands, number_below, number_is, compare_stands, compares_apart, jump_of, load_in, no_jump, ordered_stands, switch_in, way_stands}
 use Rattle.image_code.proofs.OpenBlocks.{IsTextGraph, text_graph}
-use Rattle.image_code.proofs.EdgeTables.{mark_same, some_is_any}
+use Rattle.cfg_normal.proofs.LandingFacts.{some_is_any}
 use Rattle.image_code.proofs.Positions.{placed, position_at}
 use borrow.Author.Count.{below_more}
 use Rattle.std.specs.Prelude.{slice_set}
 use Rattle.cfg_blocks.specs.declared.EdgeKind.TheVariants as kinds
-use Rattle.image_code.specs.Labels.{Foreign, Landing, Way, edges_but_landings, enter_number, entering, first_entry, foreign_number, jump_number, landing_number, node_in_order, way_piece}
+use Rattle.cfg_normal.specs.Code.{jump_number, edges_but_landings}
+use Rattle.image_code.specs.Labels.{Foreign, Landing, Way, enter_number, entering, first_entry, foreign_number, landing_number, node_in_order, way_piece}
 
 pub each_index : {A : Type 0} (P : A → Type 0) (xs : List A) → ((k : ℕ) (x : A) → slice_get xs k ≡ Some x → P x)
     → Each P xs
@@ -26,14 +27,6 @@ facts_of text graph source = text_graph text graph source.is_text source.is_grap
 
 pub number_of_list : (o : Option ℕ) (number : ℕ) (rest : List ℕ) → option_to_list o ≡ number ∷ rest → o ≡ Some number
 number_of_list o number rest e = grind arith
-
--- whether a table has an open switch's jump for a block
-pub jump_found : (count : ℕ) (opens : List Open) (table : List ℕ) (block : ℕ) (found : Option ℕ)
-    → AreFirst count jump_place opens table → block < count → mark_of found ≡ slice_index table block
-    → is_some found ≡ jumps_in opens block
-jump_found count opens table block found are low is =
-    ap is_some (mark_same found _ (is ∙ are.each block low))
-    ∙ some_is_any (λ (o : Open). o.block == block) opens
 
 -- ---- the first images of the blocks in the order of the text, as they are noted
 
@@ -70,7 +63,7 @@ module _ (text : Words) (graph : Graph) (k : ℕ) where
   abbrev ends : Open → Bool
   ends o = o.block == k
 
-  pub behind_numbered : (number load word : ℕ) → jump_number text graph k ≡ Some number
+  pub behind_numbered : (number load word : ℕ) → jump_number graph.opens k ≡ Some number
       → ((o : Open) → slice_get graph.opens number ≡ Some o → load ≡ load_of text o)
       → saved_before text graph k word ≡ (if nat_lt load word then 1 else 0)
   behind_numbered number load word e its =
@@ -78,7 +71,7 @@ module _ (text : Words) (graph : Graph) (k : ℕ) where
       let same : found.number ≡ number = same_Some _ _ (sym found.at ∙ e) in
       rw (found.first, its found.item (rw same at found.is)) refl
 
-  pub none_numbered : jump_number text graph k ≡ None → (word : ℕ) → saved_before text graph k word ≡ 0
+  pub none_numbered : jump_number graph.opens k ≡ None → (word : ℕ) → saved_before text graph k word ≡ 0
   none_numbered e word = rw (not_found ends graph.opens (sym (some_is_any ends graph.opens) ∙ ap is_some e)) refl
 
 -- ---- sums over the open switches, with the next one

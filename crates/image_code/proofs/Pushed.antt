@@ -1,5 +1,5 @@
 -- Lists that grow by one item in each turn of a loop, among them the pieces of the entries of tables and their numbers.
-use Rattle.image_code.proofs.Common.{◌≡◌, ℕ, suc, ◌+◌, ◌-◌, ◌<◌, ◌≤◌, ◌==◌, List, [], ◌∷◌, ◌++◌, Option, Some, length, length-append, length-take, map, take, ap, ◌∙◌, arith, slice_get, slice_get-get_or, slice_get-map, slice_index_or, position, flat_map, range_with_len, append-nil, map-append, take_more, get_or_from_slice_get, slice_get_within, below, get_or-below, length-below, Words, WordNo, Open, Graph, flat_map-append, get_or-map, enumerate_from, map-range_with_len_more, open_begin, Case, Label, case_piece, entry_label, first_entry, or_zero}
+use Rattle.image_code.proofs.Common.{◌≡◌, ℕ, suc, ◌+◌, ◌-◌, ◌<◌, ◌≤◌, ◌==◌, List, [], ◌∷◌, ◌++◌, Option, Some, length, length-take, map, take, ap, ◌∙◌, arith, slice_get, slice_get-get_or, slice_get-map, slice_index_or, position, flat_map, range_with_len, append-nil, map-append, take_more, get_or_from_slice_get, slice_get_within, below, get_or-below, length-below, Words, WordNo, Open, Graph, flat_map-append, get_or-map, enumerate_from, map-range_with_len_more, open_begin, Case, Label, case_piece, entry_label, first_entry, or_zero}
 use Rattle.image_code.proofs.Listed.{case_stands, number_is}
 use Rattle.image_code.proofs.OpenBlocks.{IsTextGraph}
 
@@ -17,12 +17,6 @@ range_next f first word above =
 pub flat_next : {A B : Type 0} (f : A → List B) (xs : List A) (n : ℕ) (x : A) → n < length xs → x ≡ slice_index_or xs n x
     → flat_map f (take (n + 1) xs) ≡ flat_map f (take n xs) ++ f x
 flat_next f xs n x l is = rw (take_more xs n x l, ← is, flat_map-append f (take n xs) (x ∷ []), append-nil (f x))
-
-pub flat_count : {A : Type 0} (f : ℕ → List A) (n : ℕ)
-    → length (flat_map f (below (n + 1))) ≡ length (flat_map f (below n)) + length (f n)
-flat_count f n =
-    let e : n + 1 ≡ suc n = omega arith in
-    rw (e, flat_map-append f (below n) (n ∷ []), length-append (flat_map f (below n)), append-nil (f n))
 
 -- of the items of a list with their numbers
 numbered_more : {A B : Type 0} (f : ℕ → A → B) (n : ℕ) (xs : List A) (x : A)

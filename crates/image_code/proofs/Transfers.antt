@@ -337,7 +337,7 @@ module _ (visit : AtWord) where
 
     -- at the jump's block itself of an open switch: the Case edge that it chooses leads to the slot
     module _ (chooses : Chooses g node x t v) (k : ℕ) (o : Open) (among : slice_get g.switches k ≡ Some o)
-        (numbered : jump_number g.text (graph_in g) o.block ≡ Some k) (jumping : jumps_in g.switches o.block ≡ true)
+        (numbered : jump_number (graph_in g).opens o.block ≡ Some k) (jumping : jumps_in g.switches o.block ≡ true)
         (itself : node ≡ block o.block) where
       block_is : IsCaseBlock g.text b o
       block_is = is.cased.each k o among

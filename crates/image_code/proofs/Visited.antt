@@ -284,7 +284,7 @@ module _ (in_slot : InSlot) where
       pub o : Open
       pub among : slice_get g.switches k ≡ Some o
       pub itself : node ≡ block o.block
-      pub numbered : jump_number g.text (graph_in g) o.block ≡ Some k
+      pub numbered : jump_number (graph_in g).opens o.block ≡ Some k
       pub entry : ℕ
       pub word : ℕ
       pub at : slice_get o.targets entry ≡ Some word

@@ -10,7 +10,8 @@ use Rattle.cfg_normal.specs.declared.Node.{Node}
 use Rattle.cfg_normal.specs.declared.Node.TheVariants.{Block, Landed}
 use Rattle.cfg_normal.specs.Nodes.{same_kind, same_node}
 use Rattle.cfg_normal.specs.Opens.{Open, jumps_in}
-use Rattle.cfg_normal.specs.Graph.{Graph, landings_of}
+use Rattle.cfg_normal.specs.Graph.{Graph}
+use Rattle.cfg_normal.specs.Code.{edges_but_landings}
 use Rattle.image_code.specs.Loads.{load_of}
 
 pub data Label : Type 0 where
@@ -40,14 +41,6 @@ same_label Foreign Foreign = true
 same_label _ _ = false
 
 -- ---- the order
-
--- how many landings a graph has, which come last among its edges
-abbrev pub landing_count : Graph → ℕ
-landing_count graph = length (flat_map (landings_of graph.opens) (below (length graph.blocks.firsts)))
-
--- the edges but for the landings
-abbrev pub edges_but_landings : Graph → List Edge
-edges_but_landings graph = take (length graph.edges - landing_count graph) graph.edges
 
 -- the node of a word's image in the order of the text: control falls only into the landed copy of a jump's block
 abbrev pub node_in_order : Graph → ℕ → Node
@@ -156,10 +149,6 @@ module _ (text : Words) (graph : Graph) where
 
   abbrev pub case_numbers : List ℕ
   case_numbers = flat_map cases_of graph.opens
-
-  -- the number of the open switch whose jump ends the block
-  abbrev pub jump_number : ℕ → Option ℕ
-  jump_number block = position (λ (o : Open). o.block == block) graph.opens
 
   -- where the entries of the switch with a number begin
   abbrev pub first_entry : ℕ → ℕ

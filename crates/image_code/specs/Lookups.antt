@@ -22,13 +22,13 @@ use Rattle.cfg_normal.specs.Numbers.{kind_number, node_number, node_numbers}
 use Rattle.cfg_normal.specs.declared.Node.{Node}
 use Rattle.cfg_normal.specs.declared.Node.TheVariants.{Block, Landed, X}
 use Rattle.cfg_normal.specs.Opens.{Open, is_copied, jumps_in}
-use Rattle.cfg_normal.specs.Code.{IsGraph, IsNodeIn}
+use Rattle.cfg_normal.specs.Code.{IsGraph, IsNodeIn, edges_but_landings}
 use Rattle.image_code.specs.declared.firsts.CaseEdge.{CaseEdge}
 use Rattle.image_code.specs.contracts.firsts.CaseEdgePartialEq.TheImpl as case_eq
 use Rattle.image_code.specs.declared.lookups.Lookups.{Lookups}
 use Rattle.image_code.specs.Loads.{is_place, load_of}
 use Rattle.image_code.specs.Graphs.{IsGraphOf}
-use Rattle.image_code.specs.Labels.{edges_but_landings, enter_number, first_entry, landing_count, switch_at}
+use Rattle.image_code.specs.Labels.{enter_number, first_entry, switch_at}
 
 -- ---- what is known of a text and its graph
 
@@ -87,12 +87,6 @@ mark_of (Some n) = suc n
 
 abbrev pub first_mark : Bool → ℕ → ℕ → ℕ
 first_mark is_here number before = if is_here && (before == 0) then suc number else before
-
--- A table has for each place the number of the first item there.
-pub record AreFirst {A : Type 0} (count : ℕ) (place_of : A → ℕ) (items : List A) (table : List ℕ) : Type 0 where
-  pub long : length table ≡ count
-  pub each : (place : ℕ) → place < count
-      → slice_index table place ≡ mark_of (position (λ item. place_of item == place) items)
 
 -- ---- edges
 
@@ -201,14 +195,9 @@ pub record AreFirstImages (text : Words) (graph : Graph) (images : List ℕ) : T
 
 -- ---- all of them
 
-abbrev pub jump_place : Open → ℕ
-jump_place o = o.block
-
 pub record AreLookups (text : Words) (graph : Graph) (l : Lookups) : Type 0 where
   pub edges : AreFirstEdges graph graph.edges l.edges.items
   pub cases : (case : CaseEdge) → get same_case l.cases case ≡ position (is_case graph case) graph.edges
-  pub jumps : AreFirst (length graph.blocks.firsts) jump_place graph.opens l.jumps.items
-  pub ways : l.ways ≡ length graph.edges - landing_count graph
   pub images : AreFirstImages text graph l.images.items
   pub behind : l.behind ≡ open_begin text graph (length graph.opens)
   pub loads : l.loads.items ≡ map (load_of text) graph.opens

@@ -21,6 +21,7 @@ use Rattle.cfg_normal.specs.declared.Slot.{Slot}
 use Rattle.cfg_normal.specs.declared.Slot.TheVariants as slots
 use Rattle.cfg_normal.specs.Nodes.{same_kind, same_node}
 use Rattle.cfg_normal.specs.Opens.{Open, jumps_in}
+use Rattle.cfg_normal.specs.Code.{jump_number}
 use Rattle.cfg_normal.specs.Graph.{Graph, lands}
 use Rattle.cfg_walk.specs.Walk.{edge_along, edge_from, landing_at, left_by}
 use Rattle.cfg_walk.specs.Matches.{way_address}
@@ -45,7 +46,7 @@ use Rattle.image_code.specs.Images.{EditorData, AtVisit, IsPlaced, Pieces}
 use Rattle.image_code.specs.Outside.{IsOffPages}
 use Rattle.image_code.specs.Shapes.{Shape, assembled, bare, goes_to, leaves_to, marked}
 use Rattle.image_code.specs.Labels as labels
-use Rattle.image_code.specs.Labels.{Label, along_number, case_numbers, enter_number, first_entry, foreign_number, image_number, jump_number, landing_number, node_in_order, number_of, or_zero, piece_labels, way_piece}
+use Rattle.image_code.specs.Labels.{Label, along_number, case_numbers, enter_number, first_entry, foreign_number, image_number, landing_number, node_in_order, number_of, or_zero, piece_labels, way_piece}
 use Rattle.image_code.specs.Graphs.{IsGraphOf, case_table}
 
 -- ---- words
@@ -144,8 +145,8 @@ module _ (text : Words) (graph : Graph) (jumps cases : ℕ) where
   abbrev pub jump_image_by : Visit → Node → ℕ → ℕ → Op2 → Shape
   jump_image_by visit (Block block) rd rs1 op2 =
       if jumps_in graph.opens block.0
-      then choice_of visit rd (jump_number text graph block.0)
-      (slice_get graph.opens (or_zero (jump_number text graph block.0)))
+      then choice_of visit rd (jump_number graph.opens block.0)
+      (slice_get graph.opens (or_zero (jump_number graph.opens block.0)))
       else jump_by visit (Block block) rd rs1 op2
   jump_image_by visit node rd rs1 op2 = jump_by visit node rd rs1 op2
 

@@ -1,39 +1,24 @@
 //! Where the pieces of each node begin.
 
-ghost use Rattle.std.specs.Prelude.{◌≡◌, ℕ, ◌+◌, ◌^◌, ◌<◌, length, slice_index, Some, IfOk, OnOk};
+ghost use Rattle.std.specs.Prelude.{◌≡◌, ℕ, ◌+◌, ◌^◌, ◌<◌, length, slice_index, IfOk, OnOk};
 ghost use Rattle.cfg_blocks.specs.Blocks.{size_of};
 ghost use Rattle.cfg_normal.specs.Numbers.{node_numbers};
-ghost use Rattle.cfg_normal.specs.Opens.{jumps_in};
-ghost use Rattle.image_code.specs.Labels.{edges_but_landings};
-ghost use Rattle.image_code.specs.Lookups.{AreFirst, AreFirstImages, AreSwitchesNoted, IsSource, image_noted, jump_place, open_begin, pieces_of as pieces_in, place_in_order};
+ghost use Rattle.image_code.specs.Lookups.{AreFirstImages, AreSwitchesNoted, IsSource, image_noted, open_begin, pieces_of as pieces_in, place_in_order};
 
-use crate::firsts::{first_at, small};
+use crate::firsts::small;
 use cfg_normal::{FlowGraph, Node, OpenSwitch, node_number};
 use eel_base::{BlockNo, NoMemory, Text};
 use std::alloc::Global;
 
-/// Whether the jump of an open switch ends the block, by the first switches of blocks.
-pub(crate) fn is_jumps(graph: &FlowGraph, jumps: &[u32], block: BlockNo) -> bool
-    requires jumps { AreFirst (length graph.now.blocks.firsts) jump_place graph.now.opens jumps.now }
-    requires block { block.0 < length graph.now.blocks.firsts }
-    ensures { result ≡ jumps_in graph.now.opens block.0 }
-{
-    match first_at(jumps, block.0 as usize) {
-        Some(_) => true,
-        None => false,
-    }
-}
-
 // ---- in the order of the text
 
 // Where the table has the node of a block's images in the order of the text.
-fn place_of(graph: &FlowGraph, jumps: &[u32], block: BlockNo) -> u32
-    requires jumps { AreFirst (length graph.now.blocks.firsts) jump_place graph.now.opens jumps.now }
+fn place_of(graph: &FlowGraph, block: BlockNo) -> u32
     requires block { block.0 < length graph.now.blocks.firsts }
     ensures place { result ≡ place_in_order graph.now block.0 }
     ensures within { result < node_numbers graph.now }
 {
-    if is_jumps(graph, jumps, block) {
+    if graph.jump_of(block).is_some() {
         node_number(graph, Node::Landed(block))
     } else {
         node_number(graph, Node::Block(block))
@@ -41,8 +26,7 @@ fn place_of(graph: &FlowGraph, jumps: &[u32], block: BlockNo) -> u32
 }
 
 // Notes the first words of all blocks, which have their numbers.
-fn note_blocks(images: &mut [u32], graph: &FlowGraph, jumps: &[u32])
-    requires jumps { AreFirst (length graph.now.blocks.firsts) jump_place graph.now.opens jumps.now }
+fn note_blocks(images: &mut [u32], graph: &FlowGraph)
     requires long { length images.old ≡ node_numbers graph.now }
     ensures blocks { (k : ℕ) → k < length graph.now.blocks.firsts
         → slice_index images.new (place_in_order graph.now k) ≡ slice_index graph.now.blocks.firsts k }
@@ -50,7 +34,7 @@ fn note_blocks(images: &mut [u32], graph: &FlowGraph, jumps: &[u32])
 {
     for block in 0..graph.count() {
         let block = BlockNo(block);
-        images[place_of(graph, jumps, block) as usize] = graph.first(block).0;
+        images[place_of(graph, block) as usize] = graph.first(block).0;
     }
 }
 
@@ -106,22 +90,15 @@ fn note_switches(
 }
 
 // Notes where the pieces of all nodes begin, and answers where those behind them do.
-fn note_images(
-    images: &mut [u32],
-    text: &Text,
-    graph: &FlowGraph,
-    jumps: &[u32],
-    ways: usize,
-) -> Result<u32, NoMemory>
+fn note_images(images: &mut [u32], text: &Text, graph: &FlowGraph) -> Result<u32, NoMemory>
     requires source { IsSource text.now graph.now }
-    requires jumps { AreFirst (length graph.now.blocks.firsts) jump_place graph.now.opens jumps.now }
-    requires ways { ways ≡ length (edges_but_landings graph.now) }
     requires long { length images.old ≡ node_numbers graph.now }
     ensures images { OnOk result (AreFirstImages text.now graph.now images.new) }
     ensures behind { IfOk result (λ end. end ≡ open_begin text.now graph.now (length graph.now.opens)) }
 {
-    note_blocks(images, graph, jumps);
-    let begin = u64::from(text.len()) + ways as u64 + u64::from(text.len());
+    note_blocks(images, graph);
+    let ways = graph.edges_but_landings().len() as u64;
+    let begin = u64::from(text.len()) + ways + u64::from(text.len());
     let behind = note_switches(images, text, graph, begin)?;
     Ok(behind)
 }
@@ -132,16 +109,12 @@ pub(crate) fn first_images(
     alloc: Global,
     text: &Text,
     graph: &FlowGraph,
-    jumps: &[u32],
-    ways: usize,
 ) -> Result<(Vec<u32>, u32), NoMemory>
     requires source { IsSource text.now graph.now }
-    requires jumps { AreFirst (length graph.now.blocks.firsts) jump_place graph.now.opens jumps.now }
-    requires ways { ways ≡ length (edges_but_landings graph.now) }
     ensures images { IfOk result (λ found. AreFirstImages text.now graph.now found.0.items) }
     ensures behind { IfOk result (λ found. found.1 ≡ open_begin text.now graph.now (length graph.now.opens)) }
 {
     let mut images = vec![in alloc; 0; 2 * graph.count() as usize + 1]?;
-    let behind = note_images(&mut images, text, graph, jumps, ways)?;
+    let behind = note_images(&mut images, text, graph)?;
     Ok((images, behind))
 }

@@ -1,12 +1,12 @@
-//! Tables of what comes first: of the first edge of a node, and of the first open switch of a block.
+//! Tables of the first edges: of each kind at a node, and between two nodes.
 
 ghost use Rattle.std.specs.Prelude.{◌≡◌, ℕ, ◌+◌, ◌^◌, ◌<◌, ◌≤◌, ◌==◌, length, slice_index, IfOk, OnErr, OnOk};
 ghost use Rattle.std.specs.List.{position};
 ghost use Rattle.std.specs.Option.{option_or};
 ghost use Rattle.indexmap.specs.IndexMap.{get};
-ghost use Rattle.cfg_normal.specs.Code.{IsEdgeIn, IsGraph};
+ghost use Rattle.cfg_normal.specs.Code.{IsEdgeIn};
 ghost use Rattle.cfg_normal.specs.Numbers.{node_numbers};
-ghost use Rattle.image_code.specs.Lookups.{AreFirst, AreFirstEdges, first_mark, is_case, is_edge_at, jump_place, mark_at, mark_of, node_of_edge as node_of_edge_in, number_where, same_case};
+ghost use Rattle.image_code.specs.Lookups.{AreFirstEdges, first_mark, is_case, is_edge_at, mark_at, mark_of, node_of_edge as node_of_edge_in, number_where, same_case};
 
 use cfg_blocks::EdgeKind;
 use cfg_normal::{Edge, FlowGraph, kind_number, node_number};
@@ -147,30 +147,4 @@ pub(crate) fn first_cases(alloc: Global, graph: &FlowGraph) -> Result<FirstCases
         note_case(&mut cases, graph, edge, number as u32)?;
     }
     Ok(cases)
-}
-
-// ---- open switches
-
-// Notes the open switches by the blocks of their jumps.
-fn note_jumps(table: &mut [u32], graph: &FlowGraph) -> Result<(), NoMemory>
-    requires graph { IsGraph graph.now }
-    requires long { length table.old ≡ length graph.now.blocks.firsts }
-    requires fresh { (n : ℕ) → slice_index table.old n ≡ 0 }
-    ensures { OnOk result (AreFirst (length graph.now.blocks.firsts) jump_place graph.now.opens table.new) }
-{
-    for (number, found) in graph.opens().iter().enumerate() {
-        let number = small(number as u64)?;
-        note_first(table, found.block().0 as usize, number);
-    }
-    Ok(())
-}
-
-/// The open switches, by the blocks of their jumps.
-pub(crate) fn first_jumps(alloc: Global, graph: &FlowGraph) -> Result<Vec<u32>, NoMemory>
-    requires graph { IsGraph graph.now }
-    ensures { IfOk result (λ table. AreFirst (length graph.now.blocks.firsts) jump_place graph.now.opens table.items) }
-{
-    let mut table = vec![in alloc; 0; graph.count() as usize]?;
-    note_jumps(&mut table, graph)?;
-    Ok(table)
 }

@@ -2,7 +2,6 @@
 
 ghost use Rattle.std.specs.Prelude.{◌≡◌, ◌+◌, ◌-◌, ◌^◌, ◌<◌, ◌≤◌, ◌++◌, if◌then◌else◌, IsTrue, false, [], length, map, option_to_list, slice_get, Some, IfOk, OnOk};
 ghost use Rattle.std.specs.List.{range_with_len};
-ghost use Rattle.cfg_blocks.specs.Blocks.{last_word as last_word_of};
 ghost use Rattle.cfg_blocks.specs.declared.EdgeKind.TheVariants.{Fall};
 ghost use Rattle.cfg_normal.specs.declared.Node.TheVariants.{Block};
 ghost use Rattle.cfg_normal.specs.Landings.{IsNumbered};
@@ -31,15 +30,6 @@ const ALWAYS: u8 = 8;
 
 // ---- words and nodes
 
-/// The last word of a block.
-pub(crate) fn last_word(graph: &FlowGraph, block: BlockNo) -> WordNo
-    requires block { block.0 < length graph.now.blocks.firsts }
-    ensures word { result.0 ≡ last_word_of graph.now.blocks.firsts graph.now.blocks.words block.0 }
-    ensures within { result.0 < graph.now.blocks.words }
-{
-    WordNo(graph.first(block).0 + graph.words(block) - 1)
-}
-
 /// The block of a node, near which those of the next words lie; for X the first one.
 pub(crate) fn block_of(node: Node) -> BlockNo {
     match node {
@@ -54,7 +44,7 @@ fn ends_block(graph: &FlowGraph, node: Node, word: WordNo) -> bool
     ensures { result ≡ ends_block_of graph.now node word.0 }
 {
     match node {
-        Node::Block(block) | Node::Landed(block) => word.0 == last_word(graph, block).0,
+        Node::Block(block) | Node::Landed(block) => word.0 == graph.last(block).0,
         Node::X => false,
     }
 }
@@ -86,7 +76,7 @@ impl PieceMaker<'_> {
         ensures numbered { IsNumbered (length self.now.graph.now.blocks.firsts) result }
     {
         let block = self.graph.holding_near(word, near);
-        if self.is_jumps(block) {
+        if self.graph.jump_of(block).is_some() {
             Node::Landed(block)
         } else {
             Node::Block(block)
@@ -219,8 +209,8 @@ impl PieceMaker<'_> {
             self.now.cases.0 visit (Block block) rd rs1 op2) }
     {
         let node = Node::Block(block);
-        match self.jump_of(block) {
-            Some(number) => Ok(self.switch_jump(visit, rd, number as usize)),
+        match self.graph.jump_of(block) {
+            Some(number) => Ok(self.switch_jump(visit, rd, number)),
             None => self.jump_out(visit, node, rd, rs1, op2),
         }
     }

@@ -1,25 +1,22 @@
 //! The tables by which the numbers of edges and of pieces are found.
 
-ghost use Rattle.std.specs.Prelude.{◌≡◌, ◌+◌, ◌-◌, ◌<◌, ◌≤◌, false, length, map, option_to_list, slice_get, slice_index, Some, All, IfOk};
+ghost use Rattle.std.specs.Prelude.{◌≡◌, ◌+◌, ◌<◌, ◌≤◌, false, length, map, option_to_list, slice_get, slice_index, Some, All, IfOk};
 ghost use Rattle.std.specs.List.{position};
 ghost use Rattle.indexmap.specs.IndexMap.{get};
 ghost use Rattle.cfg_blocks.specs.Blocks.{below};
 ghost use Rattle.cfg_blocks.specs.declared.EdgeKind.TheVariants.{Case};
 ghost use Rattle.cfg_normal.specs.declared.Node.TheVariants.{Block};
-ghost use Rattle.cfg_normal.specs.Code.{IsEdgeIn, IsGraph};
-ghost use Rattle.cfg_normal.specs.Graph.{landings_of};
-ghost use Rattle.cfg_normal.specs.Opens.{Open, jumps_in};
+ghost use Rattle.cfg_normal.specs.Code.{IsEdgeIn, IsGraph, edges_but_landings as edges_but_landings_of};
+ghost use Rattle.cfg_normal.specs.Opens.{Open};
 ghost use Rattle.cfg_normal.specs.Landings.{IsNumbered};
 ghost use Rattle.cfg_normal.specs.Numbers.{kind_number as kind_number_of, node_number as node_number_of, node_numbers};
 ghost use Rattle.cfg_walk.specs.Walk.{edge_along, edge_from, landing_at};
 ghost use Rattle.image_code.specs.Loads.{load_of as load_in};
-ghost use Rattle.image_code.specs.Lookups.{AreFirst, AreFirstEdges, AreLookups, IsSource, is_case, is_land, jump_place, mark_at, mark_of, open_begin, same_case};
-ghost use Rattle.image_code.specs.Labels.{edges_but_landings as edges_but_landings_of, first_entry, jump_number, landing_count as landing_count_of};
+ghost use Rattle.image_code.specs.Lookups.{AreFirstEdges, AreLookups, IsSource, is_case, is_land, mark_at, mark_of, open_begin, same_case};
+ghost use Rattle.image_code.specs.Labels.{first_entry};
 
-use crate::first_images::{first_images, is_jumps};
-use crate::firsts::{
-    CaseEdge, FirstCases, KindMarks, first_at, first_cases, first_edges, first_jumps, small,
-};
+use crate::first_images::first_images;
+use crate::firsts::{CaseEdge, FirstCases, KindMarks, first_at, first_cases, first_edges, small};
 use crate::loads::load_of;
 use crate::maker::PieceMaker;
 use cfg_blocks::EdgeKind;
@@ -27,18 +24,14 @@ use cfg_normal::{Edge, FlowGraph, Node, OpenSwitch, kind_number, node_number};
 use eel_base::{BlockNo, NoMemory, Text};
 use std::alloc::Global;
 
-/// Tables that find edges, open switches and pieces by their numbers. `edges` and `jumps` are marks: an entry is one more
-/// than the number of the first item at its place, or 0 where there is none.
+/// Tables that find edges, open switches and pieces by their numbers. `edges` are marks: an entry is one more than the
+/// number of the first edge at its place, or 0 where there is none.
 #[derive(Drop)]
 pub(crate) struct Lookups {
     /// The first edge of each kind that leaves a node, or the landing that leads to it, by the node's number.
     edges: Vec<KindMarks>,
     /// The first Case edge between two nodes.
     cases: FirstCases,
-    /// The open switch whose jump ends a block, by the block's number.
-    jumps: Vec<u32>,
-    /// How many edges are no landings. The landings come behind them.
-    ways: usize,
     /// The number of the piece where control enters the first word of a node, by the node's number.
     images: Vec<u32>,
     /// The number of the first piece behind those of open switches: the first one of a Case edge.
@@ -48,36 +41,6 @@ pub(crate) struct Lookups {
     /// The number of the first table entry of each open switch, where the entries of all tables are numbered in one
     /// row; one more for how many entries there are.
     entries: Vec<u32>,
-}
-
-// ---- landings
-
-// How many landings a block has.
-fn landings_at(graph: &FlowGraph, jumps: &[u32], block: BlockNo) -> usize
-    requires jumps { AreFirst (length graph.now.blocks.firsts) jump_place graph.now.opens jumps.now }
-    requires block { block.0 < length graph.now.blocks.firsts }
-    ensures count { result ≡ length (landings_of graph.now.opens block.0) }
-    ensures few { result ≤ 2 }
-{
-    if is_jumps(graph, jumps, block) {
-        1
-    } else if graph.is_copied(block) {
-        2
-    } else {
-        1
-    }
-}
-
-// How many landings there are.
-fn landing_count(graph: &FlowGraph, jumps: &[u32]) -> usize
-    requires jumps { AreFirst (length graph.now.blocks.firsts) jump_place graph.now.opens jumps.now }
-    ensures { result ≡ landing_count_of graph.now }
-{
-    let mut count = 0;
-    for block in 0..graph.count() {
-        count += landings_at(graph, jumps, BlockNo(block));
-    }
-    count
 }
 
 // ---- open switches
@@ -136,19 +99,12 @@ pub(crate) fn lookups_of(alloc: Global, text: &Text, graph: &FlowGraph) -> Resul
     requires source { IsSource text.now graph.now }
     ensures { IfOk result (AreLookups text.now graph.now) }
 {
-    let jumps = first_jumps(alloc, graph)?;
-    let ways = graph
-        .edges()
-        .len()
-        .saturating_sub(landing_count(graph, &jumps));
     let (edges, cases) = edges_of(alloc, graph)?;
-    let (images, behind) = first_images(alloc, text, graph, &jumps, ways)?;
+    let (images, behind) = first_images(alloc, text, graph)?;
     let (loads, entries) = opens_of(alloc, text, graph)?;
     Ok(Lookups {
         edges,
         cases,
-        jumps,
-        ways,
         images,
         behind,
         loads,
@@ -170,7 +126,7 @@ impl<'a> PieceMaker<'a> {
         ensures edges { result.now ≡ edges_but_landings_of self.now.graph.now }
         ensures inside { All (IsEdgeIn self.now.graph.now.blocks self.now.graph.now.opens) result.now }
     {
-        &self.graph.edges()[..self.lookups.ways]
+        self.graph.edges_but_landings()
     }
 
     // The first edge of a kind that leaves a node, or the landing that leads to it.
@@ -215,22 +171,6 @@ impl<'a> PieceMaker<'a> {
             Some(edge) => Some(*edge),
             None => None,
         }
-    }
-
-    /// The number of the open switch whose jump ends the block.
-    pub(crate) fn jump_of(&self, block: BlockNo) -> Option<u32>
-        requires block { block.0 < length self.now.graph.now.blocks.firsts }
-        ensures { result ≡ jump_number self.now.text.now self.now.graph.now block.0 }
-    {
-        first_at(&self.lookups.jumps, block.0 as usize)
-    }
-
-    /// Whether the jump of an open switch ends the block.
-    pub(crate) fn is_jumps(&self, block: BlockNo) -> bool
-        requires block { block.0 < length self.now.graph.now.blocks.firsts }
-        ensures { result ≡ jumps_in self.now.graph.now.opens block.0 }
-    {
-        self.jump_of(block).is_some()
     }
 
     /// The number of the piece where control enters the first word of the node with a number.

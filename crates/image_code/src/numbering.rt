@@ -32,14 +32,8 @@ impl PieceMaker<'_> {
         requires block { block.0 < length self.now.graph.now.blocks.firsts }
         ensures { result ≡ saved_before self.now.text.now self.now.graph.now block.0 word.0 }
     {
-        match self.jump_of(block) {
-            Some(number) => {
-                if word.0 > self.load(number as usize) {
-                    1
-                } else {
-                    0
-                }
-            }
+        match self.graph.jump_of(block) {
+            Some(number) => { if word.0 > self.load(number) { 1 } else { 0 } }
             None => 0,
         }
     }

@@ -6,12 +6,12 @@ ghost use Rattle.cfg_normal.specs.Code.{IsEdgeIn, IsNodeIn};
 ghost use Rattle.cfg_walk.specs.Matches.{last_in as last_in_of, target_along, way_address};
 ghost use Rattle.image_code.specs.Made.{first_word as first_word_of, goes_behind, goes_on, slot_copy as slot_copy_of, way_along, way_by as way_by_of};
 ghost use Rattle.image_code.specs.Lookups.{IsReached};
-ghost use Rattle.image_code.specs.Labels.{Way, edges_but_landings};
+ghost use Rattle.image_code.specs.Labels.{Way};
+ghost use Rattle.cfg_normal.specs.Code.{edges_but_landings};
 ghost use Rattle.image_code.specs.Private.{pieces_for};
 ghost use Rattle.cfg_blocks.specs.Blocks.{below};
 ghost use Rattle.v8_decode.specs.Words.{decode_of};
 
-use crate::images::last_word;
 use crate::maker::PieceMaker;
 use crate::shape::{Exit, Head, Shape, Visit, bare, is_transfer, marked, push_piece, unused};
 use cfg_blocks::EdgeKind;
@@ -67,7 +67,7 @@ impl PieceMaker<'_> {
         ensures within { result.0 < length self.now.text.now.words }
     {
         match node {
-            Node::Block(block) | Node::Landed(block) => last_word(self.graph, block),
+            Node::Block(block) | Node::Landed(block) => self.graph.last(block),
             Node::X => WordNo(0),
         }
     }

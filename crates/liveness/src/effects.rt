@@ -1,9 +1,8 @@
 //! What words and edges read and write.
-ghost use Rattle.std.specs.Prelude.{◌≡◌, ◌^◌, ◌<◌, ◌≤◌, not, ◌&&◌, ◌||◌, length, slice_index, IsTrue};
+ghost use Rattle.std.specs.Prelude.{◌≡◌, ◌^◌, ◌<◌, ◌≤◌, not, ◌&&◌, ◌||◌, length, IsTrue};
 ghost use Rattle.v8_decode.specs.declared.Part.{Part};
 ghost use Rattle.v8_decode.specs.Parts.{has};
 ghost use Rattle.v8_decode.specs.Ranges.{has_even_pair};
-ghost use Rattle.cfg_blocks.specs.Blocks.{last_word};
 ghost use Rattle.cfg_blocks.specs.Values.{instr_at};
 ghost use Rattle.cfg_normal.specs.Code.{IsEdgeIn, IsGraph};
 ghost use Rattle.liveness.specs.Live.{beyond, edge_at, is_landing, is_outside, slot_reads, slot_writes};
@@ -75,20 +74,9 @@ pub(crate) fn last_of(graph: &FlowGraph, node: Node) -> u32
     ensures few { graph.now.blocks.words ≤ 2 ^ 20 }
 {
     match node {
-        Node::Block(block) | Node::Landed(block) => last_word(graph, block),
+        Node::Block(block) | Node::Landed(block) => graph.last(block).0,
         Node::X => 0,
     }
-}
-
-/// The last word of a block.
-fn last_word(graph: &FlowGraph, block: BlockNo) -> u32
-    requires { block.0 < length graph.now.blocks.firsts }
-    ensures last { result ≡ last_word graph.now.blocks.firsts graph.now.blocks.words block.0 }
-    ensures above { slice_index graph.now.blocks.firsts block.0 ≤ result }
-    ensures within { result < graph.now.blocks.words }
-    ensures few { graph.now.blocks.words ≤ 2 ^ 20 }
-{
-    graph.first(block).0 + graph.words(block) - 1
 }
 
 /// What is read on an edge whose snippet names these registers: by the slot, or, unless that writes it, by the snippet

@@ -1,4 +1,5 @@
-use Rattle.image_code.specs.Labels.{Way, landing_count}
+use Rattle.cfg_normal.specs.Code.{landing_count}
+use Rattle.image_code.specs.Labels.{Way}
 use Rattle.image_code.proofs.Pushed.{below_next}
 use Rattle.image_code.proofs.Positions.{get_taken}
 use Rattle.image_code.proofs.Common.{◌≡◌, ◌∙◌, ◌-◌, ◌^◌, ◌<◌, Edge, Some, append_assoc, map-append, length, length-take, ap, sym, arith, le_prop, slice_get, slice_get-get_or, slice_index_or, ∥∥₁_elim, way_shape}
