@@ -1,6 +1,6 @@
 //! How many loops stand about each word of a text.
 ghost use Rattle.std.specs.Prelude.{◌≡◌, ◌+◌, ◌-◌, ◌^◌, ◌<◌, length, map, slice_index, slice_set, IfOk};
-ghost use Rattle.cfg_blocks.specs.Blocks.{below, last_word};
+ghost use Rattle.cfg_blocks.specs.Blocks.{below};
 ghost use Rattle.cfg_blocks.specs.Code.{IsBlockList};
 ghost use Rattle.span_tree.specs.Bounds.{AreBounds};
 ghost use Rattle.span_tree.specs.Weights.{branch_target, loops_at};
@@ -56,7 +56,7 @@ fn put_loop(bounds: &mut Bounds, blocks: &BlockList, block: BlockNo)
     requires bounds { AreBounds blocks.now.blocks block.0 bounds.old.begins.items bounds.old.ends.items }
     ensures { AreBounds blocks.now.blocks (block.0 + 1) bounds.new.begins.items bounds.new.ends.items }
 {
-    let last = last_of(blocks, block);
+    let last = blocks.last(block).0;
     if let Some(target) = branch_target(blocks.end(block))
         && target.0 <= last
     {
@@ -89,14 +89,5 @@ fn text_words(blocks: &BlockList) -> u32
     ensures { result ≡ blocks.now.blocks.words }
 {
     let last = BlockNo(blocks.count() - 1);
-    blocks.first(last).0 + blocks.words(last)
-}
-
-/// The last word of a block.
-fn last_of(blocks: &BlockList, block: BlockNo) -> u32
-    requires { block.0 < length blocks.now.blocks.firsts }
-    ensures last { result ≡ last_word blocks.now.blocks.firsts blocks.now.blocks.words block.0 }
-    ensures within { result < blocks.now.blocks.words }
-{
-    blocks.first(block).0 + blocks.words(block) - 1
+    blocks.last(last).0 + 1
 }

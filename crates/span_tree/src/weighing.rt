@@ -48,7 +48,7 @@ fn block_weight(graph: &FlowGraph, loops: &[u32], block: BlockNo) -> u64
     requires block { block.0 < length graph.now.blocks.firsts }
     ensures { result ≡ block_weight graph.now.blocks block.0 }
 {
-    let last = graph.first(block).0 + graph.words(block) - 1;
+    let last = graph.last(block).0;
     let about = loops[last as usize];
     1 + 8 * u64::from(about).min(MOST_LOOPS)
 }
