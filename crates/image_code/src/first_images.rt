@@ -18,10 +18,7 @@ pub(crate) fn is_jumps(graph: &FlowGraph, jumps: &[u32], block: BlockNo) -> bool
     requires block { block.0 < length graph.now.blocks.firsts }
     ensures { result ≡ jumps_in graph.now.opens block.0 }
 {
-    match first_at(jumps, block.0 as usize) {
-        Some(_) => true,
-        None => false,
-    }
+    first_at(jumps, block.0 as usize).is_some()
 }
 
 // ---- in the order of the text
