@@ -1,4 +1,4 @@
-use Rattle.image_code.proofs.Common.{ap, is_some, sym, ◌∙◌}
+use Rattle.image_code.proofs.Common.{◌∙◌}
 use Rattle.image_code.proofs.OpenNumbers.{jump_found}
 use Rattle.image_code.proofs.first_images.is_jumps.Goals as goal
 
