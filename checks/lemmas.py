@@ -1,10 +1,12 @@
 #!/usr/bin/env python3
-"""Which lemmas nothing names, and which statements stand word for word in two files: checks/lemmas.py [CRATE..]
+"""Which lemmas nothing names, and which statements stand in two files: checks/lemmas.py [CRATE..]
 
 A lemma is what a file of proofs gives a type, at its top or in a `module` there; what a file's goals ask for isn't one, nor
 is a fact about constants, which is a worked example. It is named where its name stands outside of itself, of imports
-and of comments, in its own file or in one that imports it. Status 1 says that there is a lemma that nothing names. Of
-statements in two files those of two lines or more are told, and they are no fault: one may be out of the other's sight.
+and of comments, in its own file or in one that imports it. Status 1 says that there is a lemma that nothing names.
+Two statements are the same if they differ in the names and types of what they bind alone. Those in two files are told, and
+are no fault: one may be out of the other's sight, or speak of its own module's parameters. A type of types alone, as a
+definition has, is no statement.
 """
 import argparse
 import re
@@ -18,6 +20,7 @@ NAME = rf'[^{ENDS}]+'
 HEAD = re.compile(rf'( *)(?:(?:pub|abbrev|unfoldable) )*({NAME}(?: {NAME})*) :(?=\s|$)')
 WORD = re.compile(NAME)
 IMPORT = re.compile(r'\s*(pub |ghost )*use ')
+BINDER = re.compile(rf'(?<=[({{])((?:{NAME} )+):(?= )|λ ((?:{NAME} )*{NAME})(?=\.)')
 
 
 class Lemma:
@@ -25,20 +28,34 @@ class Lemma:
         self.path, self.line, self.name, self.is_inner, self.lines = path, line, name, is_inner, []
 
     def statement(self):
-        """What it says, without its name, and in how many lines."""
+        """What it says, without its name."""
         said = []
         for line in self.lines:
             if said and re.match(rf'\s*(unfolding|{re.escape(self.name)})(?!{NAME})', line):
                 break
             said.append(line)
-        return ' '.join(' '.join(said).split()).partition(' : ')[2], len(said)
+        return ' '.join(' '.join(said).split()).partition(' : ')[2]
 
     def is_example(self):
-        said, _ = self.statement()
-        bare = said
+        said = bare = self.statement()
         while bare != (bare := re.sub(r'\([^()]*\)', '', bare)):
             pass
         return not (self.is_inner or '→' in bare or re.match(r'[({][^()]* : ', said))
+
+
+def numbered(names, said):
+    """`said` with each of `names` as its place among those that occur."""
+    places = {}
+    return re.sub(NAME, lambda found: places.setdefault(found[0], f'#{len(places)}') if found[0] in names else found[0], said)
+
+
+def as_compared(said):
+    """A statement with numbers for the names that it binds, and without their types; '' of a type of types alone."""
+    said = re.sub(r'λ \((\S+) : [^()]*\)\.', r'λ \1.', said)
+    names = {name for found in BINDER.finditer(said) for name in (found[1] or found[2]).split()}
+    bare = re.sub(rf'[({{](?:{NAME} )+: [^(){{}}]*[)}}] (?:→ )?', '', said)
+    speaks = re.search(r'(?<!\S)\(*[a-z#]', re.sub(rf'{NAME}\.', '', numbered(names, bare)))
+    return numbered(names, bare) if speaks else ''
 
 
 class File:
@@ -89,10 +106,8 @@ def main():
         print(f'{lemma.path}:{lemma.line}: {lemma.name}: nothing names it')
     said = defaultdict(list)
     for lemma in wanted:
-        statement, lines = lemma.statement()
-        if lines > 1:
-            said[statement].append(lemma)
-    twice = [some for some in said.values() if len({lemma.path for lemma in some}) > 1]
+        said[as_compared(lemma.statement())].append(lemma)
+    twice = [some for key, some in said.items() if key and len({lemma.path for lemma in some}) > 1]
     for some in twice:
         print('said twice:', ', '.join(f'{lemma.name} ({lemma.path}:{lemma.line})' for lemma in some))
     print(f'{len(wanted)} lemmas, {len(unnamed)} that nothing names, {len(twice)} statements in two files')

@@ -1,5 +1,5 @@
 -- What is written is an edit: its notes meet their rules, and the laws of written files give the rest. It is faithful.
-use Rattle.edit_core.proofs.Common.{sym, false≢true, ◌≡◌, ℕ, suc, ◌+◌, ◌*◌, ◌%◌, ◌^◌, ◌<◌, ◌≤◌, List, [], ◌∷◌, ◌++◌, length, length-append, nat_le, None, inl, inr, refl, ap, ◌∙◌, arith, All, sum_by, length-replicate, count_by-le-length, big_bytes, IsText, Words, image_of, highest_end, Notes, accepted-program, AreNotes, notes_bytes, notes_words, words_bytes, AddedSegment, length-words_bytes, Graph, TableAt, Each, Placement, AreFit, Plan, ToolKind, tool_number, true, false, slice_index, Some, slice_get, le-leb, lt-ltb, append_assoc, slice_get_within, get_or_from_slice_get, address_of, word_at, NoteRange, Part, State, run, start_of, instr_at, mapping_added, Edge, IsEdgeIn, is_node, each-append, each-then, IsNoLoad, are_tables, cased, each_index, note_bytes, IsWordAt, PlacesSay, CanEdit, bound_in, page_size, HasGraph, HasPages, IsInRoom, IsPlace, note_edges, note_of, word_mapped, IsEdited, IsWithinBound, LoadsNoEntry, is_before_jump, nat_lt, ◌&&◌, subst, table_of, load_is, blocks_of, CaseTable, Open, any_at, nat_tests, replicate, view_of, entered_of, are_ranges, flat_map, eq-eqb, and_from, holds, node_number, each_of_all, get_or_default_zero}
+use Rattle.edit_core.proofs.Common.{sym, false≢true, ◌≡◌, ℕ, suc, ◌+◌, ◌*◌, ◌%◌, ◌^◌, ◌<◌, ◌≤◌, List, [], ◌∷◌, ◌++◌, length, length-append, nat_le, None, inl, inr, refl, ap, ◌∙◌, arith, All, sum_by, length-replicate, count_by-le-length, big_bytes, IsText, Words, image_of, highest_end, Notes, accepted-program, AreNotes, notes_bytes, notes_words, words_bytes, AddedSegment, length-words_bytes, Graph, TableAt, Each, Placement, AreFit, Plan, ToolKind, tool_number, true, slice_index, Some, slice_get, le-leb, lt-ltb, append_assoc, slice_get_within, get_or_from_slice_get, address_of, word_at, NoteRange, Part, State, run, start_of, mapping_added, Edge, IsEdgeIn, is_node, each-append, each-then, IsNoLoad, are_tables, cased, each_index, note_bytes, IsWordAt, PlacesSay, CanEdit, bound_in, page_size, HasGraph, HasPages, IsInRoom, IsPlace, note_edges, note_of, word_mapped, IsEdited, IsWithinBound, LoadsNoEntry, is_before_jump, nat_lt, ◌&&◌, subst, table_of, load_is, blocks_of, CaseTable, Open, any_at, replicate, view_of, entered_of, are_ranges, flat_map, eq-eqb, and_from, holds, node_number, each_of_all, get_or_default_zero}
 use Rattle.std.proofs.lemmas.List.Elements.{All-replicate}
 use Rattle.notes.specs.Laws.{AreWords}
 use Rattle.notes.specs.Written.{segment_words, edge_words, range_words}

@@ -17,12 +17,9 @@ use Rattle.code_runs.proofs.PointsAlike.{points_act_alike}
 use Rattle.two_runs.proofs.Follows.{runs_follow}
 use Rattle.edit_core.proofs.Trails.{ending, going, long_lives, longer, node_of_place, over_or_not, own_live, placed_between, quiet_trail, stays, trail_stays, visit_lives, visit_more, visited_address}
 use Rattle.two_runs.specs.TwoRuns.{IsBounded}
+use Rattle.image_code.proofs.Dead.{same_then}
 
 -- ---- small things
-
-same_trans : (item : StateItem) (s t u : State) → IsSameAt item s t → IsSameAt item t u → IsSameAt item s u
-same_trans (Register n) s t u h k = h ∙ k
-same_trans _ s t u h k = h ∙ k
 
 same_moved : (item : StateItem) (s t : State) (p : Point) → IsSameAt item s t → IsSameAt item s (at_point p t)
 same_moved (Register n) s t p h = h
@@ -201,7 +198,7 @@ module _ (g : EditSetup) (entry : ℕ) (Inside : Point → Type 0) (AtVisit : No
 
         items_next : (item : StateItem) → IsItem item → K (suc n) item → IsSameAt item (s (suc n)) x.on.after
         items_next item is k =
-            same_trans item (s (suc n)) (does n m) x.on.after
+            same_then item (s (suc n)) (does n m) x.on.after
             (x.alike.items live item is (before item is (r.keeping.back n item k))) (x.on.followed.items go item is
             (rw x.alike.world.window at (r.keeping.live n item k)))
 

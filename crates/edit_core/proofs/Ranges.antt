@@ -6,6 +6,7 @@ use Rattle.image_code.specs.Shapes.{exit_items, items_of, mark_items}
 use Rattle.image_code.proofs.Shapes.{first_mark, first_of}
 use Rattle.edit_core.proofs.Graphs.{IsNumber, number_of}
 use Rattle.edit_core.proofs.Fronts.{passed}
+use Rattle.std.proofs.lemmas.Option.{same_Some}
 
 -- ---- ranges one after the other
 
@@ -55,9 +56,6 @@ ends_inside : (items : List Item) (n : ℕ) → end_from items n ≤ n + length 
 ends_inside [] n = omega arith
 ends_inside (x ∷ items) n = let later = ends_inside items (suc n) in grind (arith, cond)
 
-some_same : {a b : NoteRange} → Some a ≡ Some b → a ≡ b
-some_same e = cc
-
 module _ (text : Words) (graph : Graph) (table cases : ℕ) (codes : ℕ → List ℕ) (is : IsText text)
     (h : IsGraphOf text graph) (base : ℕ) (p : Placement) (place : ℕ → ℕ → ℕ)
     (laid : IsLaid (piece_list text graph table cases codes) base p place) where
@@ -92,7 +90,7 @@ module _ (text : Words) (graph : Graph) (table cases : ℕ) (codes : ℕ → Lis
       let both : Some r ≡ range_of (place k) (open_in (Some (it.Mark m.address r.node ∷ f.item ∷ rest)) 1) =
       sym (found base (base + 4 * length p.code) p.ranges laid.ascend n r e).1 ∙ there
       ∙ ap (λ o. range_of (place k) (open_in o 1)) piece in
-      let same : r ≡ record { lo = place k 1; hi = place k end; address = m.address.0; node = r.node } = some_same both in
+      let same : r ≡ record { lo = place k 1; hi = place k end; address = m.address.0; node = r.node } = same_Some _ _ both in
       let size : items_in (slice_get pieces k) ≡ suc (suc (length rest)) = ap items_in piece in
       let last = laid.within k end inside (omega (arith, size, ends_inside (f.item ∷ rest) 1)) in
       let from : m.address.0 ≡ address_of text its.word = ap (λ (x : Visit). x.address.0) its.is in

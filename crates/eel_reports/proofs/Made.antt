@@ -1,8 +1,7 @@
 -- A program that is made from a number can be edited with counters, run and counted.
-use Rattle.std.proofs.Common.{ℕ, zero, suc, ◌+◌, ◌*◌, ◌%◌, ◌<◌, ◌≤◌, List, [], ◌∷◌, ◌++◌, length, map, inr, arith}
-use Rattle.std.specs.Prelude.{slice_index}
+use Rattle.std.proofs.Common.{ℕ, ◌+◌, ◌*◌, ◌%◌, ◌<◌, ◌≤◌, List, [], ◌∷◌, ◌++◌, length, map, inr, arith}
 use Rattle.std.specs.Int.{bytes_high_first}
-use Rattle.std.proofs.lemmas.List.Elements.{All-nil, All-cons, All-append}
+use Rattle.std.proofs.lemmas.List.Elements.{All-nil, All-append}
 use Rattle.elf32_sparc.specs.Image.{image_of}
 use Rattle.v8_memory.specs.Spans.{IsApartFromAll, Span}
 use Rattle.v8_step.specs.State.{AreBytes}
@@ -15,21 +14,14 @@ use Rattle.workload.proofs.Room.{leaves_room}
 use Rattle.workload.proofs.Runs.{generated_runs_end}
 use Rattle.workload.proofs.Texts.{generated_holds_its_code}
 use Rattle.eel_reports.specs.Tame.{AreAbove, IsTame}
+use Rattle.v8_step.proofs.ValidNumbers.{high_first-bytes}
 
 -- ---- its bytes
-
-high_first_bytes : (count n : ℕ) → AreBytes (bytes_high_first count n)
-high_first_bytes zero n = All-nil (λ b. b < 256)
-high_first_bytes (suc count) n = All-cons (λ b. b < 256) _ _ (low count) (high_first_bytes count n)
-  where
-    low : (k : ℕ) → slice_index (bytes_high_first (suc k) n) 0 < 256
-    low zero = omega arith
-    low (suc k) = omega arith
 
 word_bytes : (words : List ℕ) → AreBytes (bytes_of words)
 word_bytes [] = All-nil (λ b. b < 256)
 word_bytes (word ∷ words) =
-    All-append (λ b. b < 256) (bytes_high_first 4 word) (bytes_of words) (high_first_bytes 4 word) (word_bytes words)
+    All-append (λ b. b < 256) (bytes_high_first 4 word) (bytes_of words) (high_first-bytes 4 word) (word_bytes words)
 
 made_bytes : (number count : ℕ) → AreBytes (generated number count)
 unfolding generated

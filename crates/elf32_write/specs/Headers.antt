@@ -54,7 +54,8 @@ delta_of headers = fold (λ most header. max most header.p_align) page_size (loa
 abbrev pub is_carried : ProgramHeader → Bool
 is_carried header = not (header.p_type == 6) && not (is_load header && (header.p_memsz == 0))
 
--- an entry whose bytes stand `delta` further on, the text no longer executable
+-- An entry whose bytes stand `delta` further on, the text no longer executable. The offset of an entry that isn't
+-- loaded may be past 2^32 then, and is kept modulo 2^32.
 abbrev pub carried_on : ℕ → ProgramHeader → ProgramHeader
 carried_on delta header = record header {
   p_offset = (header.p_offset + delta) % 2 ^ 32;

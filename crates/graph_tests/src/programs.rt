@@ -1,11 +1,13 @@
-//! Programs that several tests take: their words, and the files and views that are made of words.
+//! What several tests take: the words of programs, the files and views that are made of words, and a chooser.
 ghost use Rattle.std.specs.Prelude.{IfOk};
 ghost use Rattle.cfg_view.specs.Code.{IsView};
 
 use cfg_view::{View, look};
 use eel_base::WordNo;
+use snippets::Snippet;
 use std::alloc::{AllocError, Global};
 use std::test::Fail;
+use tool_kit::{Chooser, EdgeRef};
 
 pub(crate) const NOP: u32 = 0x01000000;
 
@@ -35,6 +37,22 @@ pub(crate) const SWITCH_OF_FOUR: [u32; 16] = [
     0x90102003, 0x80a22003, 0x1880000c, 0x912a2002, 0x03000040, 0x82106078, 0xc2004008, 0x81c04000,
     0x01000000, 0x0001008c, 0x0001008c, 0x0001008c, 0x00010088, 0x90102005, 0x82102001, 0x91d02010,
 ];
+
+/// A chooser that does nothing on any edge.
+#[derive(Clone, Copy, Drop)]
+pub(crate) struct Nothing;
+
+impl Chooser for Nothing {
+    ghost use Rattle.std.specs.Prelude.{◌≡◌, []};
+
+    ghost may = { λ nothing edge. Unit {0} };
+
+    ghost says = { λ nothing edge ops. ops ≡ [] };
+
+    fn choose(&self, _edge: EdgeRef) -> Snippet {
+        Snippet::empty()
+    }
+}
 
 /// The words of a program's file: its headers, and these words at 0x10054.
 pub(crate) fn program(alloc: Global, text: &[u32]) -> Result<Vec<u32>, Fail> {

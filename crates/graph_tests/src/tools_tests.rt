@@ -1,13 +1,12 @@
 //! A tool: its answers for the edges of a small program.
 ghost use Rattle.tool_kit.specs.Sound.{IsSound};
 
-use crate::programs::{NOP, view_of};
+use crate::programs::{NOP, Nothing, view_of};
 use cfg_normal::FlowGraph;
 use eel_base::WordNo;
-use snippets::Snippet;
 use std::alloc::Global;
 use std::test::Fail;
-use tool_kit::{Chooser, EdgeRef, Tool, ToolKind, snips};
+use tool_kit::{Chooser, Tool, ToolKind, snips};
 
 /// How many operations a callback asks for, and on how many edges.
 fn asked<F: Chooser>(
@@ -29,22 +28,6 @@ fn asked<F: Chooser>(
         return Err(Fail::from("a tool"));
     }
     Ok((operations, snips.len()))
-}
-
-/// Nothing is done on any edge.
-#[derive(Clone, Copy, Drop)]
-struct Nothing;
-
-impl Chooser for Nothing {
-    ghost use Rattle.std.specs.Prelude.{◌≡◌, []};
-
-    ghost may = { λ nothing edge. Unit {0} };
-
-    ghost says = { λ nothing edge ops. ops ≡ [] };
-
-    fn choose(&self, _edge: EdgeRef) -> Snippet {
-        Snippet::empty()
-    }
 }
 
 #[test]

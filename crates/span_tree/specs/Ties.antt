@@ -35,6 +35,6 @@ tie_by b _ to = 1
 abbrev pub tie_of : Blocks → Edge → ℕ
 tie_of b edge = tie_by b edge.kind edge.to
 
--- the rank of an edge: by its weight, and among equals by its tie
+-- the rank of an edge: by its weight, at most 2^32, and among equals by its tie, at most 3
 abbrev pub rank_of : Graph → List ℕ → ℕ → ℕ
 rank_of graph weights e = 4 * slice_index weights e + tie_of graph.blocks (edge_at graph e)

@@ -1,5 +1,5 @@
 -- What an instruction does to the registers is what the table says.
-use Rattle.switch_runs.proofs.Common.{◌≡◌, ℕ, suc, ◌+◌, ◌%◌, ◌^◌, ◌<◌, Bool, true, false, ◌&&◌, Some, None, Result, Ok, Err, List, length, refl, ap, ◌∙◌, arith, ◌==◌, nat_lt, ltb-true, nat_tests, Words, word_at, IsText, Op2, Instr, bytes_at, register_set, length-register_set, Codes, alu_of, keeping, result_of, wrapped, Ending, State, operand_of, register_of, sum_of, branch_step, call_step, ended, jump_step, ldstub_step, load_step, store_step, swap_step, word_of, act, alu_step, register_in-range, Value, Unknown, Place, after, all_unknown, loaded_at, operand_in, put, sum_in, value_in, sets_codes, HoldsText}
+use Rattle.switch_runs.proofs.Common.{◌≡◌, ℕ, suc, ◌+◌, ◌%◌, ◌^◌, ◌<◌, Bool, true, false, ◌&&◌, Some, None, Result, Ok, Err, List, length, refl, ap, ◌∙◌, arith, ◌==◌, nat_lt, ltb-true, nat_tests, Words, word_at, IsText, Op2, Instr, bytes_at, register_set, length-register_set, Codes, alu_of, keeping, result_of, wrapped, State, operand_of, register_of, sum_of, branch_step, call_step, jump_step, ldstub_step, load_step, store_step, swap_step, word_of, act, alu_step, register_in-range, Value, Unknown, Place, after, all_unknown, loaded_at, operand_in, put, sum_in, value_in, sets_codes, HoldsText}
 use Rattle.v8_decode.specs.declared.Op2.TheVariants as o
 use Rattle.v8_decode.specs.declared.AluOp.TheVariants as ops
 use Rattle.v8_decode.specs.declared.LoadKind.TheVariants as loads

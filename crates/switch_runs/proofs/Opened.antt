@@ -3,6 +3,7 @@ use Rattle.switch_runs.proofs.Common.{◌≡◌, ℕ, suc, ◌+◌, ◌<◌, Boo
 use Rattle.cfg_blocks.specs.declared.BlockEnd.TheVariants as ends
 use Rattle.cfg_blocks.specs.declared.Into.{Into}
 use Rattle.cfg_blocks.specs.declared.Into.TheVariants as into
+use Rattle.std.proofs.lemmas.Option.{same_Some}
 
 -- ---- what a switch is made of
 
@@ -168,15 +169,12 @@ opens_are text given entry is =
 same_way : (a b : BlockNo) (v w : EdgeKind) → into.One a v ≡ into.One b w → v ≡ w
 same_way a b v w e = cc
 
-same_some : {A : Type 0} (a b : A) → Some a ≡ Some b → a ≡ b
-same_some a b e = cc
-
 same_annul : (c d : ℕ) (a e : Bool) (t u : Option WordNo) → ends.Branch c a t ≡ ends.Branch d e u → a ≡ e
 same_annul c d a e t u h = cc
 
 pub opens_are_one : OpensAreOne
 opens_are_one text list entry one other p q block =
-    let switch : one.switch ≡ other.switch = same_some one.switch other.switch
+    let switch : one.switch ≡ other.switch = same_Some one.switch other.switch
     (sym p.is_switch ∙ ap (switch_of text list entry) block ∙ q.is_switch) in
     let from : one.switch.compare ≡ other.switch.compare = ap (λ (w : Switch). w.compare) switch in
     let way : one.way ≡ other.way = same_way one.switch.compare other.switch.compare one.way other.way
@@ -184,7 +182,7 @@ opens_are_one text list entry one other p q block =
     let annul : p.annul ≡ q.annul = same_annul p.cond q.cond p.annul q.annul p.parts.target q.parts.target
     (cc (p.parts.branch, from, q.parts.branch)) in
     let compare : one.approach.compare ≡ other.approach.compare =
-    same_some one.approach.compare other.approach.compare (cc (p.parts.sets, from, q.parts.sets)) in
+    same_Some one.approach.compare other.approach.compare (cc (p.parts.sets, from, q.parts.sets)) in
     let approach : one.approach ≡ other.approach = cc (p.approach, block, from, annul, way, compare, q.approach) in
     let targets : one.targets ≡ other.targets = p.targets ∙ ap (targets_of text) switch ∙ sym q.targets in
     rw (switch, block, way, approach, targets)

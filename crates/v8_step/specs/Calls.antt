@@ -22,7 +22,8 @@ refuses error s = answered true error s
 
 -- ---- the calls
 
--- 3, read: into the buffer go as many bytes as it takes and the input has
+-- 3, read: into the buffer go as many bytes as it takes and the input has. The rest of it stays as it is, whatever its
+-- permissions are.
 abbrev pub read_into : ℕ → State → Option Memory → State
 read_into count s None = refuses EFAULT s
 read_into count s (Some m) = succeeds count (record s { memory = m; input = drop count s.input })

@@ -10,6 +10,7 @@ use Rattle.v8_decode.specs.contracts.AluOpPartialEq.TheImpl as alu_eq
 use Rattle.v8_decode.specs.contracts.LoadKindPartialEq.TheImpl as load_eq
 use Rattle.v8_encode.proofs.Decoded.{decode_of-word_of}
 use Rattle.v8_encode.proofs.Encoded.{encode_of-decode_of}
+use Rattle.std.proofs.lemmas.Option.{same_Some}
 
 abbrev op2_same : Op2 → Op2 → Bool
 op2_same = (op2_eq.ghosts).eq
@@ -102,17 +103,13 @@ again w fits is =
       decoded = ap decode_of (sym word) ∙ decode_of-word_of (decode_of w) (decode_of-ranges w).0 has;
     }
 
--- no lesser word is the same instruction, where the word is the one that encodes it
-some_is : {m n : ℕ} → Some m ≡ Some n → m ≡ n
-some_is same = cc same
-
 none_less : (w : ℕ) → w < 2 ^ 32 → is_instruction (decode_of w) ≡ true → cleared (ignored_of (decode_of w)) w ≡ w
     → (v : ℕ) → v < w → same_instr (decode_of v) (decode_of w) ≡ false
 none_less w fits is least v less = false_from_ne_true _ (λ same.
     let one = same_true _ _ same in
     let other = again v (omega arith) (ap is_instruction one ∙ is) in
     let these : cleared (ignored_of (decode_of w)) v ≡ w =
-    some_is (sym (rw one at other.encoded) ∙ (again w fits is).encoded ∙ ap Some least) in
+    same_Some _ _ (sym (rw one at other.encoded) ∙ (again w fits is).encoded ∙ ap Some least) in
     let most : cleared (ignored_of (decode_of w)) v ≤ v = rw one at other.most in
     omega arith)
 

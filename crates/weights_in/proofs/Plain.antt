@@ -8,9 +8,6 @@ pub use Rattle.line_words.proofs.Split.{is_whole, whole_append}
 abbrev pub is_plain : List ℕ → Bool
 is_plain word = is_whole 10 word && is_whole 32 word
 
-same_text : (one other : List ℕ) → bytes_eq one other ≡ true → one ≡ other
-same_text one other h = (bytes_eq-Decides one other).0 h
-
 -- a word that is one of some plain ones
 one_plain : (word : List ℕ) (words : List (List ℕ)) → list_all is_plain words ≡ true
     → list_any (bytes_eq word) words ≡ true → is_plain word ≡ true
@@ -18,7 +15,7 @@ one_plain word [] all h = absurd (cc h)
 one_plain word (first ∷ words) all h =
     let parts = and_parts (is_plain first) (list_all is_plain words) all in
     elim (cases_Bool (bytes_eq word first)) [
-      | inl is ↦ rw (same_text word first is) parts.0
+      | inl is ↦ rw ((bytes_eq-Decides word first).0 is) parts.0
       | inr isnt ↦ one_plain word words parts.1 (rw isnt at h)
     ]
 
@@ -63,7 +60,7 @@ marked_plain : (word : List ℕ)
 marked_plain word h =
     let outer = and_parts ((length word == 9) && bytes_eq (drop 8 word) (codes "+")) (is_address (take 8 word)) h in
     let inner = and_parts (length word == 9) (bytes_eq (drop 8 word) (codes "+")) outer.0 in
-    let mark : is_plain (drop 8 word) ≡ true = ap is_plain (same_text (drop 8 word) (codes "+") inner.1) in
+    let mark : is_plain (drop 8 word) ≡ true = ap is_plain ((bytes_eq-Decides (drop 8 word) (codes "+")).0 inner.1) in
     ap is_plain (sym (take-append-drop 8 word))
     ∙ plain_append (take 8 word) (drop 8 word) (address_plain (take 8 word) outer.1) mark
 
@@ -73,6 +70,6 @@ node_plain word h = by_tests (bytes_eq word (codes "x")) refl (is_address word) 
     by_tests : (a : Bool) → bytes_eq word (codes "x") ≡ a → (b : Bool) → is_address word ≡ b
         → (a || b || ((length word == 9) && bytes_eq (drop 8 word) (codes "+") && is_address (take 8 word))) ≡ true
         → is_plain word ≡ true
-    by_tests true a b is any = ap is_plain (same_text word (codes "x") a)
+    by_tests true a b is any = ap is_plain ((bytes_eq-Decides word (codes "x")).0 a)
     by_tests false a true is any = address_plain word is
     by_tests false a false is any = marked_plain word any
