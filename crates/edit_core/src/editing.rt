@@ -6,7 +6,7 @@ ghost use Rattle.elf32_sparc.specs.FileFault.{fault};
 ghost use Rattle.cfg_blocks.specs.Marks.{numbers};
 ghost use Rattle.cfg_view.specs.View.{view_of};
 ghost use Rattle.cfg_view.specs.Code.{view_seen};
-ghost use Rattle.tool_kit.specs.Code.{IsPlanOf};
+ghost use Rattle.tool_kit.specs.Code.{AreAnswers, IsPlanOf};
 ghost use Rattle.tool_kit.specs.Plans.{Plan};
 ghost use Rattle.edit_core.specs.Taken.{CanEdit};
 ghost use Rattle.edit_core.specs.declared.requests.EditFault.TheVariants as faults;
@@ -18,7 +18,7 @@ ghost use Rattle.edit_core.specs.Private.{plan_of, IsViewOf};
 
 use crate::addresses::AddressMap;
 use crate::building::{NewCode, new_code};
-use crate::noting::{Told, notes};
+use crate::noting::{Told, note_edges, notes};
 use crate::requests::{EditFault, Request, bound};
 use crate::segments::{cells_segment, code_segment, page_segment, tables_segment};
 use cfg_normal::FlowGraph;
@@ -75,7 +75,7 @@ pub fn edit_view<F: Chooser>(
         &request.snips,
     )?;
     keep_room(needed, u64::from(view.image.room()))?;
-    let file = write_edit(alloc, bytes, &view.image, &view.graph, request)?;
+    let file = write_edit(alloc, bytes, &view.image, &view.graph, tool, request)?;
     Ok(file)
 }
 
@@ -105,14 +105,16 @@ fn ask<F: Chooser>(alloc: Global, tool: &Tool<F>, graph: &FlowGraph) -> Result<R
 }
 
 // The file that is written of a program.
-fn write_edit(
+fn write_edit<F: Chooser>(
     alloc: Global,
     bytes: &[u8],
     image: &Image,
     graph: &FlowGraph,
+    tool: &Tool<F>,
     request: Request,
 ) -> Result<Vec<u8>, NoMemory>
     requires limit { length bytes.now ≤ 2 ^ 26 }
+    requires asked { AreAnswers F.says tool.now.choose graph.now.edges request.snips.items }
     requires request { (marks : List ℕ) × IsViewOf bytes.now (plan_of marks request) image.now graph.now
         × CanEdit bytes.now (plan_of marks request) × CanDo bytes.now (plan_of marks request) }
     ensures { (marks : List ℕ) → IsViewOf bytes.now (plan_of marks request) image.now graph.now
@@ -120,9 +122,9 @@ fn write_edit(
 {
     let (kind, cells) = (request.kind, request.cells);
     let addresses = AddressMap::above(image, cells);
-    let built = new_code(alloc, image, graph, request)?;
-    let (new, edges) = built;
+    let new = new_code(alloc, image, graph, request)?;
     let added = added_segments(alloc, addresses, &new)?;
+    let edges = note_edges(alloc, graph, kind, tool)?;
     let told = Told { kind, cells, edges };
     let noted = notes(alloc, bytes, image, graph, told, new.placed, &added)?;
     let notes = write_notes(alloc, &noted)?;

@@ -7,12 +7,12 @@ ghost use Rattle.eel_base.specs.Code.{IsText};
 ghost use Rattle.elf32_write.specs.Headers.{segment_seen as segment_added};
 ghost use Rattle.notes.specs.Code.{notes_seen, edge_seen, range_seen, segment_seen};
 ghost use Rattle.snippets.specs.declared.snippet.Op.{Op};
+ghost use Rattle.tool_kit.specs.Code.{AreAnswers};
 ghost use Rattle.edit_core.specs.Faithful.{cell_noted as cell_noted_of, note_edge as note_edge_of, note_edges as note_edges_of, tool_number as tool_number_of};
 ghost use Rattle.edit_core.specs.Written.{is_off as is_off_of, notes_on, off_range as off_range_of, off_ranges, segment_noted, segments_noted, segment_size, table_after};
 ghost use Rattle.edit_core.specs.Private.{placement_in, plan_told, IsViewOf};
 
 use crate::addresses::AddressMap;
-use crate::requests::Request;
 use cfg_normal::{Edge, FlowGraph, Slot, kind_number, node_number};
 use eel_base::{Addr, BlockNo, NoMemory, Range, Text, WordNo};
 use elf32_sparc::Image;
@@ -21,7 +21,7 @@ use layout::Placed;
 use notes::{NoteEdge, NoteSegment, Notes};
 use snippets::Snippet;
 use std::alloc::Global;
-use tool_kit::ToolKind;
+use tool_kit::{Chooser, Tool, ToolKind, edge_at};
 
 /// The version of the notes that are written.
 const NOTES_VERSION: u32 = 2;
@@ -160,20 +160,25 @@ fn first_words(alloc: Global, graph: &FlowGraph) -> Result<Vec<u32>, NoMemory>
     Ok(firsts)
 }
 
-/// The edges as notes have them, of what was asked.
-pub(crate) fn note_edges(
+/// The edges as notes have them. The tool answers once more for each, since its snippets go before the pieces come.
+pub(crate) fn note_edges<F: Chooser>(
     alloc: Global,
     graph: &FlowGraph,
-    request: &Request,
+    kind: ToolKind,
+    tool: &Tool<F>,
 ) -> Result<Vec<NoteEdge>, NoMemory>
-    ensures { IfOk result (λ v. map edge_seen v.items
-        ≡ note_edges_of graph.now request.now.kind graph.now.edges request.now.snips.items) }
+    ensures { (snips : List (List Op)) → AreAnswers F.says tool.now.choose graph.now.edges snips
+        → IfOk result (λ v. map edge_seen v.items ≡ note_edges_of graph.now kind graph.now.edges snips) }
 {
-    let mut edges = Vec::with_capacity(alloc, graph.edges().len())?;
-    for (edge, snippet) in graph.edges().iter().zip(request.snips.iter()) {
-        edges.push(note_edge(graph, request.kind, edge, snippet))?;
+    // What is known of the tool.
+    let _cells = tool.cells();
+    let edges = graph.edges();
+    let mut noted = Vec::with_capacity(alloc, edges.len())?;
+    for number in 0..edges.len() {
+        let edge = edge_at(edges, number);
+        noted.push(note_edge(graph, kind, &edge.edge, &tool.answer(edge)))?;
     }
-    Ok(edges)
+    Ok(noted)
 }
 
 fn note_edge(graph: &FlowGraph, kind: ToolKind, edge: &Edge, snippet: &Snippet) -> NoteEdge

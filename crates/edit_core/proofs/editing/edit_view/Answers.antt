@@ -43,6 +43,7 @@ write_edit-requires g c =
     let work = view_can_do c.args.bytes.now plan _ view c.in_ok-request.ensures.work in
     record {
       limit = c.requires.limit;
+      asked = c.in_ok-request.ensures.plan.snips;
       request = (numbers c.args.tool.now.marks, view_is c.args.bytes.now plan _ view, can, work);
     }
 
