@@ -1,12 +1,12 @@
 //! The edit of a file.
-ghost use Rattle.std.specs.Prelude.{◌≡◌, ℕ, List, [], ◌∷◌, ◌++◌, ◌+◌, ◌*◌, ◌<◌, ◌≤◌, ◌^◌, length, map, All, IfErr, IfOk, None, OnOk};
+ghost use Rattle.std.specs.Prelude.{◌≡◌, [], ◌∷◌, ◌++◌, ◌+◌, ◌*◌, ◌<◌, ◌≤◌, ◌^◌, length, map, All, IfErr, IfOk, None, OnOk};
 ghost use Rattle.elf32_write.specs.Headers.{segment_seen};
 ghost use Rattle.elf32_write.specs.Laws.{AreBytes};
 ghost use Rattle.elf32_sparc.specs.FileFault.{fault};
 ghost use Rattle.cfg_blocks.specs.Marks.{numbers};
 ghost use Rattle.cfg_view.specs.View.{view_of};
 ghost use Rattle.cfg_view.specs.Code.{view_seen};
-ghost use Rattle.tool_kit.specs.Code.{AreAnswers, IsPlanOf};
+ghost use Rattle.tool_kit.specs.Code.{IsPlanOf};
 ghost use Rattle.tool_kit.specs.Plans.{Plan};
 ghost use Rattle.edit_core.specs.Taken.{CanEdit};
 ghost use Rattle.edit_core.specs.declared.requests.EditFault.TheVariants as faults;
@@ -18,7 +18,7 @@ ghost use Rattle.edit_core.specs.Private.{plan_of, IsViewOf};
 
 use crate::addresses::AddressMap;
 use crate::building::{NewCode, new_code};
-use crate::noting::{Told, note_edges, notes};
+use crate::noting::notes;
 use crate::requests::{EditFault, Request, bound};
 use crate::segments::{cells_segment, code_segment, page_segment, tables_segment};
 use cfg_normal::FlowGraph;
@@ -114,19 +114,16 @@ fn write_edit<F: Chooser>(
     request: Request,
 ) -> Result<Vec<u8>, NoMemory>
     requires limit { length bytes.now ≤ 2 ^ 26 }
-    requires asked { AreAnswers F.says tool.now.choose graph.now.edges request.snips.items }
-    requires request { (marks : List ℕ) × IsViewOf bytes.now (plan_of marks request) image.now graph.now
-        × CanEdit bytes.now (plan_of marks request) × CanDo bytes.now (plan_of marks request) }
-    ensures { (marks : List ℕ) → IsViewOf bytes.now (plan_of marks request) image.now graph.now
-        → IfOk result (λ file. IsWritten bytes.now (plan_of marks request) file.items) }
+    requires asked { IsPlanOf F.says tool.now graph.now.edges (plan_of (numbers tool.now.marks) request) }
+    requires view { IsViewOf bytes.now (plan_of (numbers tool.now.marks) request) image.now graph.now }
+    requires can { CanEdit bytes.now (plan_of (numbers tool.now.marks) request) }
+    requires work { CanDo bytes.now (plan_of (numbers tool.now.marks) request) }
+    ensures { IfOk result (λ file. IsWritten bytes.now (plan_of (numbers tool.now.marks) request) file.items) }
 {
-    let (kind, cells) = (request.kind, request.cells);
-    let addresses = AddressMap::above(image, cells);
+    let addresses = AddressMap::above(image, request.cells);
     let new = new_code(alloc, image, graph, request)?;
     let added = added_segments(alloc, addresses, &new)?;
-    let edges = note_edges(alloc, graph, kind, tool)?;
-    let told = Told { kind, cells, edges };
-    let noted = notes(alloc, bytes, image, graph, told, new.placed, &added)?;
+    let noted = notes(alloc, bytes, image, graph, tool, new.placed, &added)?;
     let notes = write_notes(alloc, &noted)?;
     drop(noted);
     let file = write_around(alloc, bytes, image, &added, new.entry, &notes)?;

@@ -25,15 +25,17 @@ loop-number-preserved g c = λ snips are.
     let few : edge.no.0 < 2 ^ 24 =
     omega (arith, c.edge_at-edge.ensures.number, within, count, graph.edge_count, graph.few) in
     let said = c.cells-cells.ensures.sound.same edge _ _ few c.answer.ensures.says asked in
+    let kind = c.args.tool.now.kind in
+    let before = map edge_seen c.loop-number.noted.items in
     let seen : map edge_seen c.push.new.self.items
-    ≡ map edge_seen c.loop-number.noted.items ++ note_edge_of c.args.graph.now c.args.kind edge.edge c.answer.result ∷ [] =
+    ≡ before ++ note_edge_of c.args.graph.now kind edge.edge c.answer.result ∷ [] =
     ap (map edge_seen) c.in_ok-push.ensures.items ∙ map-append edge_seen _ _
-    ∙ ap (λ (e : NoteEdge). map edge_seen c.loop-number.noted.items ++ e ∷ []) c.note_edge.ensures in
-    rw seen (noted_more c.args.graph.now c.args.kind c.edges-edges.result.now snips n edge.edge c.answer.result _ _ within
-    are.size (ap (λ (e : EdgeRef). e.edge) is) said (c.loop-number.invariant snips are))
+    ∙ ap (λ (e : NoteEdge). before ++ e ∷ []) (rw c.kind.ensures at c.note_edge.ensures) in
+    rw seen (noted_more c.args.graph.now kind c.edges-edges.result.now snips n edge.edge c.answer.result _ _ within are.size
+    (ap (λ (e : EdgeRef). e.edge) is) said (c.loop-number.invariant snips are))
 
 pub returns : goal.returns
 returns g c = λ snips are.
-    noted_all c.args.graph.now c.args.kind _ snips c.loop-number.number _ _
+    noted_all c.args.graph.now c.args.tool.now.kind _ snips c.loop-number.number _ _
     (omega (arith, c.loop-number-test.false, ap length c.edges-edges.ensures.edges))
     (rw c.edges-edges.ensures.edges at (c.loop-number.invariant snips (rw c.edges-edges.ensures.edges are)))
