@@ -36,7 +36,7 @@ unfoldable pub use Rattle.code_runs.specs.StoredWords.{memory_word}
 pub use Rattle.edit_core.specs.Code.{EditsAreUntouched, EditsCrashAlike, EditsDoTheSame, GrantedRunsAreAlike, IsEdited}
 pub use Rattle.edit_core.specs.Cost.{is_before_jump, LoadsNoEntry, IsWithinBound, short_bound}
 pub use Rattle.edit_core.specs.Dead.{AreDead}
-pub use Rattle.edit_core.specs.Faithful.{cell_noted, editor_page, HasGraph, HasPages, IsFaithful, IsInRoom, IsPlace, note_edge, note_edges, note_edges as note_edges_of, note_of, page_size, tool_number, word_mapped}
+pub use Rattle.edit_core.specs.Faithful.{cell_noted, editor_page, HasGraph, HasPages, IsFaithful, IsInRoom, IsPlace, note_edge, note_edge as note_edge_of, note_edges, note_edges as note_edges_of, note_of, page_size, tool_number, word_mapped}
 pub use Rattle.edit_core.specs.Private.{AreInside, AreLaid, AreMade, case_key, count_of, entries_with, HasRoom, is_entry, IsBuilt, IsViewOf, placement_in, plan_of, same_key}
 pub use Rattle.edit_core.specs.Runs.{AreTogether, GoesByTable, instr_in, JumpsGoByTable, KeepsLoaded, limits_in, Linked, RunFacts, Spares}
 pub use Rattle.edit_core.specs.RunsAlike.{EndsAtNode, IsMatched, IsStop, TellsStep, visits_by}

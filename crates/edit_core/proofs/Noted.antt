@@ -1,8 +1,8 @@
 -- The notes on an edit meet their rules.
-use Rattle.edit_core.proofs.Common.{◌≡◌, ℕ, zero, suc, nat_tests, ◌+◌, ◌*◌, ◌%◌, ◌^◌, ◌<◌, ◌≤◌, true, Option, Some, List, [], ◌∷◌, ◌++◌, length, length-append, map, refl, arith, slice_index, list_any, and_from, eq-eqb, le-leb, lt-ltb, or_left, or_right, big_bytes, Notes, NoteRange, NoteSegment, holds, AddedSegment, notes_bytes, notes_words, EdgeKind, Edge, Node, Block, Landed, X, Graph, IsEdgeIn, IsNodeIn, node_number, Each, each-then, Ascend, Placement, Op, Count, WorksBelow, WorksIn, ToolKind, AreCounters, Plan, ne_eqb, length-bytes_high_first, length-flat_map, follows, are_segments, are_blocks, are_edges, is_edge, is_free, IsAscending, kind_number, cell_noted, editor_page, note_edge, note_edges, page_size, IsGood}
-use Rattle.std.proofs.lemmas.List.{nil_from_length}
+use Rattle.edit_core.proofs.Common.{◌≡◌, ℕ, zero, suc, nat_tests, ◌+◌, ◌*◌, ◌%◌, ◌^◌, ◌<◌, ◌≤◌, true, Option, Some, List, [], ◌∷◌, ◌++◌, length, length-append, drop, get_or, append_assoc, append-nil, sym, ◌∙◌, map, refl, arith, slice_index, list_any, and_from, eq-eqb, le-leb, lt-ltb, or_left, or_right, big_bytes, Notes, NoteEdge, NoteRange, NoteSegment, holds, AddedSegment, notes_bytes, notes_words, EdgeKind, Edge, Node, Block, Landed, X, Graph, IsEdgeIn, IsNodeIn, node_number, Each, each-then, Ascend, Placement, Op, Count, WorksBelow, WorksIn, ToolKind, AreCounters, Plan, ne_eqb, length-bytes_high_first, length-flat_map, follows, are_segments, are_blocks, are_edges, is_edge, is_free, IsAscending, kind_number, cell_noted, editor_page, note_edge, note_edges, page_size, IsGood}
 use Rattle.std.proofs.lemmas.List.Folds.{list_any_none}
-use Rattle.std.proofs.Common.{lit<}
+use Rattle.std.proofs.Common.{add-one, drop-cons, lit<}
+use Rattle.std.proofs.Math.ListN.{drop_of_length-le}
 use Rattle.notes.specs.Written.{words_bytes, segment_words, edge_words, range_words, cell_word}
 use Rattle.tool_kit.specs.declared.edge_ref.ToolKind.TheVariants as tools
 use Rattle.edit_core.specs.Written.{cells_at, code_at, code_base, if_any, page_segment, segment_noted, segments_noted, table_after, table_at, text_of, graph_in, notes_on, segment_size, table_base}
@@ -153,12 +153,19 @@ module _ (original : List ℕ) (plan : Plan) (p : Placement) where
       any_past (holds lo hi) plan.cells _ behind
       (or_right _ _ (or_left _ _ (and_from _ _ (le-leb _ _ from) (le-leb _ _ to))))
 
--- where no edge or no snippet is left
-pub none_first : (graph : Graph) (kind : ToolKind) (edges : List Edge) (snips : List (List Op)) → length edges ≡ 0
-    → note_edges graph kind edges snips ≡ []
-none_first graph kind edges snips none = rw (nil_from_length edges none) refl
+-- one edge more, as notes have it, and what is left
+pub noted_more : (graph : Graph) (kind : ToolKind) (edges : List Edge) (snips : List (List Op)) (n : ℕ) (edge : Edge)
+    (ops : List Op) (done all : List NoteEdge) → n < length edges → length snips ≡ length edges
+    → edge ≡ get_or edges n edge → ops ≡ get_or snips n []
+    → done ++ note_edges graph kind (drop n edges) (drop n snips) ≡ all
+    → (done ++ note_edge graph kind edge ops ∷ []) ++ note_edges graph kind (drop (n + 1) edges) (drop (n + 1) snips) ≡ all
+noted_more graph kind edges snips n edge ops done all within size here said is =
+    rw (append_assoc, add-one)
+    (rw (drop-cons edges n edge within, drop-cons snips n [] (omega (arith, within, size)), ← here, ← said) at is)
 
-pub none_second : (graph : Graph) (kind : ToolKind) (edges : List Edge) (snips : List (List Op)) → length snips ≡ 0
-    → note_edges graph kind edges snips ≡ []
-none_second graph kind [] snips none = refl
-none_second graph kind (edge ∷ edges) snips none = rw (nil_from_length snips none) refl
+-- none is left
+pub noted_all : (graph : Graph) (kind : ToolKind) (edges : List Edge) (snips : List (List Op)) (n : ℕ)
+    (done all : List NoteEdge) → length edges ≤ n
+    → done ++ note_edges graph kind (drop n edges) (drop n snips) ≡ all → done ≡ all
+noted_all graph kind edges snips n done all past is =
+    sym (append-nil done) ∙ rw (drop_of_length-le edges past) at is

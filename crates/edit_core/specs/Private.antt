@@ -24,7 +24,6 @@ use Rattle.edit_core.specs.contracts.requests.CaseKeyPartialEq.TheImpl as key_eq
 use Rattle.edit_core.specs.Cost.{short_bound}
 use Rattle.edit_core.specs.Dead.{AreDead}
 use Rattle.edit_core.specs.Written.{table_after, segment_size, pieces_by, graph_in, IsWorkable, entry_number}
-use Rattle.edit_core.specs.declared.noting.Told.{Told}
 use Rattle.edit_core.specs.declared.requests.Request.{Request}
 use Rattle.edit_core.specs.Taken.{bound_by}
 
@@ -78,10 +77,6 @@ placement_in placed = placement_of placed.code.items placed.at.items placed.rang
 -- what is asked, with the words that are marked
 abbrev pub plan_of : List ℕ → Request → Plan
 plan_of marks request = record { kind = request.kind; marks = marks; cells = request.cells; snips = request.snips.items }
-
--- what was asked, as it is told behind the snippets
-abbrev pub plan_told : List ℕ → Told → List (List Op) → Plan
-plan_told marks told snips = record { kind = told.kind; marks = marks; cells = told.cells; snips = snips }
 
 -- ---- new code of a view
 

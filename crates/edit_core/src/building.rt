@@ -1,16 +1,10 @@
 //! The new code of a program, and the tables that lead to it.
 ghost use Rattle.std.specs.Prelude.{◌≡◌, ◌+◌, ◌-◌, ◌*◌, ◌%◌, ◌^◌, ◌<◌, ◌≤◌, ◌++◌, ℕ, length, map, slice_index, All, IfOk, OnOk};
-ghost use Rattle.eel_base.specs.Code.{IsText};
 ghost use Rattle.layout.specs.Laid.{ArePieces, long_bytes};
-ghost use Rattle.image_code.specs.Graphs.{IsGraphOf};
-ghost use Rattle.notes.specs.Code.{edge_seen};
-ghost use Rattle.edit_core.specs.Faithful.{note_edges as note_edges_of};
-ghost use Rattle.edit_core.specs.Taken.{bound_by};
-ghost use Rattle.edit_core.specs.Written.{addr, cells_size as cells_size_of, entry_number, table_after, tables_size as tables_size_of, whole_pages, AreTablesOf, IsWorkable, TablesMatch};
+ghost use Rattle.edit_core.specs.Written.{addr, cells_size as cells_size_of, entry_number, table_after, tables_size as tables_size_of, whole_pages, AreTablesOf, TablesMatch};
 ghost use Rattle.edit_core.specs.Private.{placement_in, AreInside, AreLaid, AreMade, HasRoom, IsBuilt};
 
 use crate::addresses::{AddressMap, cells_size, tables_size};
-use crate::noting::note_edges;
 use crate::requests::Request;
 use crate::segments::zeros;
 use addr_translate::{build, build_halves, table_size};
@@ -21,7 +15,6 @@ use elf32_write::put_words;
 use image_code::{PieceList, pieces_with, snippet_code};
 use layout::{LayoutFault, Piece, Placed, place};
 use liveness::live;
-use notes::NoteEdge;
 use std::alloc::Global;
 
 /// Code, where it is entered, and the bytes of the tables that lead to it.
@@ -33,30 +26,26 @@ pub(crate) struct NewCode {
 }
 
 /// The cells stand above a program's segments, the tables of the program behind them, and the images of its words right
-/// behind those, where there is as much room as an edit asks for. Beside them, the edges as notes have them: the snippets
-/// are let go before the pieces are made.
+/// behind those, where there is as much room as an edit asks for.
 pub(crate) fn new_code(
     alloc: Global,
     image: &Image,
     graph: &FlowGraph,
     request: Request,
-) -> Result<(NewCode, Vec<NoteEdge>), NoMemory>
+) -> Result<NewCode, NoMemory>
     requires { HasRoom image.now graph.now request }
     ensures built { IfOk result (λ new. IsBuilt image.now.text graph.now image.now.base request.cells
-        request.snips.items (placement_in new.0.placed)) }
-    ensures entry { IfOk result (λ new. new.0.entry.0 ≡ slice_index (placement_in new.0.placed).at
+        request.snips.items (placement_in new.placed)) }
+    ensures entry { IfOk result (λ new. new.entry.0 ≡ slice_index (placement_in new.placed).at
         (entry_number image.now.text graph.now image.now.entry)) }
     ensures leads { IfOk result (λ new.
-        TablesMatch image.now.text graph.now request.snips.items (placement_in new.0.placed)
-        (record { base = table_after image.now.base request.cells; bytes = new.0.tables.items })) }
-    ensures edges { IfOk result (λ new. map edge_seen new.1.items
-        ≡ note_edges_of graph.now request.kind graph.now.edges request.snips.items) }
+        TablesMatch image.now.text graph.now request.snips.items (placement_in new.placed)
+        (record { base = table_after image.now.base request.cells; bytes = new.tables.items })) }
 {
     let cells = request.cells;
-    let edges = note_edges(alloc, graph, &request)?;
     let made = make_pieces(alloc, image, graph, request)?;
     let new = place_code(alloc, image, cells, &made)?;
-    Ok((new, edges))
+    Ok(new)
 }
 
 // The pieces of a program's words, with snippets that take what is dead behind them.

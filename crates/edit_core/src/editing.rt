@@ -1,5 +1,5 @@
 //! The edit of a file.
-ghost use Rattle.std.specs.Prelude.{◌≡◌, ℕ, List, [], ◌∷◌, ◌++◌, ◌+◌, ◌*◌, ◌<◌, ◌≤◌, ◌^◌, length, map, All, IfErr, IfOk, None, OnOk};
+ghost use Rattle.std.specs.Prelude.{◌≡◌, [], ◌∷◌, ◌++◌, ◌+◌, ◌*◌, ◌<◌, ◌≤◌, ◌^◌, length, map, All, IfErr, IfOk, None, OnOk};
 ghost use Rattle.elf32_write.specs.Headers.{segment_seen};
 ghost use Rattle.elf32_write.specs.Laws.{AreBytes};
 ghost use Rattle.elf32_sparc.specs.FileFault.{fault};
@@ -18,7 +18,7 @@ ghost use Rattle.edit_core.specs.Private.{plan_of, IsViewOf};
 
 use crate::addresses::AddressMap;
 use crate::building::{NewCode, new_code};
-use crate::noting::{Told, notes};
+use crate::noting::notes;
 use crate::requests::{EditFault, Request, bound};
 use crate::segments::{cells_segment, code_segment, page_segment, tables_segment};
 use cfg_normal::FlowGraph;
@@ -75,7 +75,7 @@ pub fn edit_view<F: Chooser>(
         &request.snips,
     )?;
     keep_room(needed, u64::from(view.image.room()))?;
-    let file = write_edit(alloc, bytes, &view.image, &view.graph, request)?;
+    let file = write_edit(alloc, bytes, &view.image, &view.graph, tool, request)?;
     Ok(file)
 }
 
@@ -105,26 +105,25 @@ fn ask<F: Chooser>(alloc: Global, tool: &Tool<F>, graph: &FlowGraph) -> Result<R
 }
 
 // The file that is written of a program.
-fn write_edit(
+fn write_edit<F: Chooser>(
     alloc: Global,
     bytes: &[u8],
     image: &Image,
     graph: &FlowGraph,
+    tool: &Tool<F>,
     request: Request,
 ) -> Result<Vec<u8>, NoMemory>
     requires limit { length bytes.now ≤ 2 ^ 26 }
-    requires request { (marks : List ℕ) × IsViewOf bytes.now (plan_of marks request) image.now graph.now
-        × CanEdit bytes.now (plan_of marks request) × CanDo bytes.now (plan_of marks request) }
-    ensures { (marks : List ℕ) → IsViewOf bytes.now (plan_of marks request) image.now graph.now
-        → IfOk result (λ file. IsWritten bytes.now (plan_of marks request) file.items) }
+    requires asked { IsPlanOf F.says tool.now graph.now.edges (plan_of (numbers tool.now.marks) request) }
+    requires view { IsViewOf bytes.now (plan_of (numbers tool.now.marks) request) image.now graph.now }
+    requires can { CanEdit bytes.now (plan_of (numbers tool.now.marks) request) }
+    requires work { CanDo bytes.now (plan_of (numbers tool.now.marks) request) }
+    ensures { IfOk result (λ file. IsWritten bytes.now (plan_of (numbers tool.now.marks) request) file.items) }
 {
-    let (kind, cells) = (request.kind, request.cells);
-    let addresses = AddressMap::above(image, cells);
-    let built = new_code(alloc, image, graph, request)?;
-    let (new, edges) = built;
+    let addresses = AddressMap::above(image, request.cells);
+    let new = new_code(alloc, image, graph, request)?;
     let added = added_segments(alloc, addresses, &new)?;
-    let told = Told { kind, cells, edges };
-    let noted = notes(alloc, bytes, image, graph, told, new.placed, &added)?;
+    let noted = notes(alloc, bytes, image, graph, tool, new.placed, &added)?;
     let notes = write_notes(alloc, &noted)?;
     drop(noted);
     let file = write_around(alloc, bytes, image, &added, new.entry, &notes)?;

@@ -1,5 +1,5 @@
 //! The notes on an edit.
-ghost use Rattle.std.specs.Prelude.{◌≡◌, ℕ, List, ◌+◌, ◌*◌, ◌^◌, ◌<◌, ◌≤◌, ◌++◌, length, map, IfOk};
+ghost use Rattle.std.specs.Prelude.{◌≡◌, List, ◌+◌, ◌*◌, ◌^◌, ◌<◌, ◌≤◌, ◌++◌, length, map, IfOk};
 ghost use Rattle.std.specs.List.{find};
 ghost use Rattle.std.specs.Option.{ForSome};
 ghost use Rattle.cfg_normal.specs.Code.{IsEdgeIn};
@@ -7,12 +7,13 @@ ghost use Rattle.eel_base.specs.Code.{IsText};
 ghost use Rattle.elf32_write.specs.Headers.{segment_seen as segment_added};
 ghost use Rattle.notes.specs.Code.{notes_seen, edge_seen, range_seen, segment_seen};
 ghost use Rattle.snippets.specs.declared.snippet.Op.{Op};
+ghost use Rattle.tool_kit.specs.Code.{AreAnswers, IsPlanOf};
+ghost use Rattle.tool_kit.specs.Plans.{Plan};
 ghost use Rattle.edit_core.specs.Faithful.{cell_noted as cell_noted_of, note_edge as note_edge_of, note_edges as note_edges_of, tool_number as tool_number_of};
 ghost use Rattle.edit_core.specs.Written.{is_off as is_off_of, notes_on, off_range as off_range_of, off_ranges, segment_noted, segments_noted, segment_size, table_after};
-ghost use Rattle.edit_core.specs.Private.{placement_in, plan_told, IsViewOf};
+ghost use Rattle.edit_core.specs.Private.{placement_in, IsViewOf};
 
 use crate::addresses::AddressMap;
-use crate::requests::Request;
 use cfg_normal::{Edge, FlowGraph, Slot, kind_number, node_number};
 use eel_base::{Addr, BlockNo, NoMemory, Range, Text, WordNo};
 use elf32_sparc::Image;
@@ -21,55 +22,45 @@ use layout::Placed;
 use notes::{NoteEdge, NoteSegment, Notes};
 use snippets::Snippet;
 use std::alloc::Global;
-use tool_kit::ToolKind;
+use tool_kit::{Chooser, Tool, ToolKind, edge_at};
 
 /// The version of the notes that are written.
 const NOTES_VERSION: u32 = 2;
 
-/// What was asked, with the edges as notes have them in place of the snippets.
-#[derive(Drop)]
-pub(crate) struct Told {
-    pub kind: ToolKind,
-    pub cells: u32,
-    pub edges: Vec<NoteEdge>,
-}
-
-/// The notes on new code, with what was added for it.
-pub(crate) fn notes(
+/// The notes on new code that a tool asked for, with what was added for it.
+pub(crate) fn notes<F: Chooser>(
     alloc: Global,
     bytes: &[u8],
     image: &Image,
     graph: &FlowGraph,
-    told: Told,
+    tool: &Tool<F>,
     placed: Placed,
     added: &[NewSegment],
 ) -> Result<Notes, NoMemory>
     requires limit { length bytes.now ≤ 2 ^ 26 }
     requires words { graph.now.blocks.words ≡ length image.now.text.words }
     requires text { IsText image.now.text }
-    requires few { told.cells ≤ 2 ^ 23 }
-    requires low { table_after image.now.base told.cells ≤ 2 ^ 31 }
+    requires low { table_after image.now.base tool.now.cells ≤ 2 ^ 31 }
     requires added { map segment_noted (map segment_added added.now)
-        ≡ segments_noted image.now.base told.cells (segment_size image.now.text graph.now) placed.code.items }
-    ensures { (marks : List ℕ) (snips : List (List Op)) → IsViewOf bytes.now (plan_told marks told snips) image.now graph.now
-        → map edge_seen told.edges.items ≡ note_edges_of graph.now told.kind graph.now.edges snips
-        → IfOk result (λ n. notes_seen n ≡ notes_on bytes.now (plan_told marks told snips) (placement_in placed)) }
+        ≡ segments_noted image.now.base tool.now.cells (segment_size image.now.text graph.now) placed.code.items }
+    ensures { (plan : Plan) → IsViewOf bytes.now plan image.now graph.now → IsPlanOf F.says tool.now graph.now.edges plan
+        → IfOk result (λ n. notes_seen n ≡ notes_on bytes.now plan (placement_in placed)) }
 {
     let text = image.text();
-    let addresses = AddressMap::above(image, told.cells);
+    let addresses = AddressMap::above(image, tool.cells());
     Ok(Notes {
         version: NOTES_VERSION,
         delta: delta(image),
         length: bytes.len() as u32,
-        tool: tool_number(told.kind),
+        tool: tool_number(tool.kind()),
         start: text.start().0,
         words: text.len(),
         entry: graph.holding(image.entry()).0,
         base: image.base().0,
-        cells: told.cells,
+        cells: tool.cells(),
         segments: note_segments(alloc, added)?,
         blocks: first_words(alloc, graph)?,
-        edges: told.edges,
+        edges: note_edges(alloc, graph, tool)?,
         ranges: noted_ranges(text, graph, addresses.table(), placed.ranges)?,
     })
 }
@@ -160,20 +151,24 @@ fn first_words(alloc: Global, graph: &FlowGraph) -> Result<Vec<u32>, NoMemory>
     Ok(firsts)
 }
 
-/// The edges as notes have them, of what was asked.
-pub(crate) fn note_edges(
+// The edges as notes have them. The tool answers once more for each, since its snippets go before the pieces come.
+fn note_edges<F: Chooser>(
     alloc: Global,
     graph: &FlowGraph,
-    request: &Request,
+    tool: &Tool<F>,
 ) -> Result<Vec<NoteEdge>, NoMemory>
-    ensures { IfOk result (λ v. map edge_seen v.items
-        ≡ note_edges_of graph.now request.now.kind graph.now.edges request.now.snips.items) }
+    ensures { (snips : List (List Op)) → AreAnswers F.says tool.now.choose graph.now.edges snips
+        → IfOk result (λ v. map edge_seen v.items ≡ note_edges_of graph.now tool.now.kind graph.now.edges snips) }
 {
-    let mut edges = Vec::with_capacity(alloc, graph.edges().len())?;
-    for (edge, snippet) in graph.edges().iter().zip(request.snips.iter()) {
-        edges.push(note_edge(graph, request.kind, edge, snippet))?;
+    // What is known of the tool.
+    let _cells = tool.cells();
+    let edges = graph.edges();
+    let mut noted = Vec::with_capacity(alloc, edges.len())?;
+    for number in 0..edges.len() {
+        let edge = edge_at(edges, number);
+        noted.push(note_edge(graph, tool.kind(), &edge.edge, &tool.answer(edge)))?;
     }
-    Ok(edges)
+    Ok(noted)
 }
 
 fn note_edge(graph: &FlowGraph, kind: ToolKind, edge: &Edge, snippet: &Snippet) -> NoteEdge

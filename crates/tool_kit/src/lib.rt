@@ -7,4 +7,4 @@ mod tools;
 
 pub use choosing::Chooser;
 pub use edge_ref::{EdgeRef, ToolKind};
-pub use tools::{Tool, snips};
+pub use tools::{Tool, edge_at, snips};

@@ -75,8 +75,8 @@ impl<F: Chooser> Tool<F> {
         self.kind
     }
 
-    // The snippet for an edge.
-    fn answer(&self, edge: EdgeRef) -> Snippet
+    /// The snippet for an edge.
+    pub fn answer(&self, edge: EdgeRef) -> Snippet
         requires { edge.no.0 < 2 ^ 24 }
         ensures says { F.says self.now.choose edge result }
         ensures good { IsGood self.now.cells result }
@@ -104,8 +104,8 @@ pub fn snips<F: Chooser>(
     Ok(snips)
 }
 
-// The edge with this number.
-fn edge_at(edges: &[Edge], number: usize) -> EdgeRef
+/// The edge with this number.
+pub fn edge_at(edges: &[Edge], number: usize) -> EdgeRef
     requires few { length edges.now < 2 ^ 24 }
     requires within { number < length edges.now }
     ensures number { result.no.0 ≡ number }

@@ -18,4 +18,4 @@ returns c =
     let m = c.in_ok-made.ensures in
     let new = c.in_ok-new.ensures in
     let entry = new.entry ∙ ap (slice_index p.at) m.entry in
-    search (code_built m p _ new.laid.1, entry, tables_lead m p _ new.leads, c.in_ok-edges.ensures)
+    search (code_built m p _ new.laid.1, entry, tables_lead m p _ new.leads)

@@ -43,7 +43,10 @@ write_edit-requires g c =
     let work = view_can_do c.args.bytes.now plan _ view c.in_ok-request.ensures.work in
     record {
       limit = c.requires.limit;
-      request = (numbers c.args.tool.now.marks, view_is c.args.bytes.now plan _ view, can, work);
+      asked = c.in_ok-request.ensures.plan;
+      view = view_is c.args.bytes.now plan _ view;
+      can = can;
+      work = work;
     }
 
 pub returns-clause-edited : goal.returns-clause-edited
@@ -58,7 +61,7 @@ returns-clause-edited g c =
     let low = c.in_ok-keep_room.ensures.room in
     let can = can_edit bytes plan _ view (sym c.requires.sound) (omega (arith, needed, had, low)) in
     let work = view_can_do bytes plan _ view c.in_ok-request.ensures.work in
-    let written = c.in_ok-file.ensures (numbers c.args.tool.now.marks) (view_is bytes plan _ view) in (
+    let written = c.in_ok-file.ensures in (
       plan,
       subst (λ (v : Seen). IsPlanOf g.F.Chooser.says c.args.tool.now v.graph.edges plan) view c.in_ok-request.ensures.plan,
       can,
