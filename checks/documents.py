@@ -13,7 +13,7 @@ script; a figure with its unit (a build's minutes, must-fail edits, and the like
 docs/PERFORMANCE.md. What is counted there must be what is here: exactly, and of lines within a fiftieth. --write counts it
 anew. A commit at which something was measured is one of the repository. How many arguments there may be is said as the
 definition has it. docs/layers.svg has the crates of docs/layers.dot, by layers, docs/MAP.md those of crates.txt, and
-checks/README.md the scripts beside it.
+checks/README.md the scripts beside it. The formulas of docs/STATEMENT.md are those of the clause and of its definition.
 """
 import glob
 import os
@@ -207,6 +207,8 @@ FIGURE = re.compile(rf'({NUMBER}(?: to {NUMBER})?) ({UNITS})\b|({NUMBER} to {NUM
 PARSER, OUTCOMES = 'crates/eel_said/specs/Command.antt', 'crates/eel_said/src/outcome.rt'
 SHOWN, TRAPS = 'crates/eel_said/specs/Outcome.antt', 'crates/v8_step/specs/Traps.antt'
 MAP, ARGUMENTS = 'docs/MAP.md', 'crates/v8_process/specs/Arguments.antt'
+STATEMENT, EDITING = 'docs/STATEMENT.md', 'crates/edit_core/src/editing.rt'
+SAME = 'crates/edit_core/specs/Outwardly.antt'
 
 
 def section(text, heading):
@@ -367,6 +369,17 @@ def figure_faults(documents):
                 yield f'{name}:{number}: {figure} {unit}: not so in {PERFORMANCE}'
 
 
+def formula_faults():
+    """Fields of the theorem, and its clause, that STATEMENT.md doesn't show as they are but for the numbers they begin with."""
+    shown = ' '.join(read(STATEMENT).split())
+    fields = re.findall(r'^  pub (\w+) : (.*(?:\n {6}.*)*)', read(SAME), re.M)
+    clause = re.findall(r'^ +ensures (same) (\{.*\})$', read(EDITING), re.M)
+    for name, formula in fields + clause[:1]:
+        plain = re.sub(r'^\(n(?: status)? : ℕ\) → ', '', ' '.join(formula.split())).replace('descriptor', 'd')
+        if plain not in shown:
+            yield f'{STATEMENT}: the formula of `{name}` is another one'
+
+
 def picture_faults():
     """Crates that the picture of the layers has in another layer than layers.dot, or lacks."""
     drawn = re.split(r'font-weight="bold">', read('docs/layers.svg'))[1:]
@@ -387,6 +400,7 @@ def faults_of_all(documents):
     yield from list_faults()
     yield from commit_faults()
     yield from picture_faults()
+    yield from formula_faults()
 
 
 def main():
