@@ -4,13 +4,16 @@
 Which names name nothing: it looks at links with their headings, and at what stands between backticks and in blocks of
 commands: paths; crates, calls, types and definitions, which must occur in the code; clauses, which the call named before
 them must have; commands of `eel` and options of scripts. The documents are README.md, those of docs/, and a README.md
-beside other files. A name stands in the code where it occurs outside of comments. A path of one machine is a fault.
+beside other files. A name stands in the code where it occurs outside of comments. A path of one machine is a fault, and so
+is a row of a table that begins as another one does, by a name.
 
 Of all documents together: README.md has at most 130 lines; docs/REFERENCE.md has the commands that the launcher's --help,
-the manual page, the completions and the parser have, each status, line of an outcome, and trap; a figure with its unit
-(a build's minutes, must-fail edits, and the like) is one of the figures of docs/PERFORMANCE.md. What is counted there must
-be what is here: exactly, and of lines within a fiftieth. --write counts it anew. docs/layers.svg has the crates of
-docs/layers.dot, by layers.
+the manual page, the completions and the parser have, each status, line of an outcome, trap and limit of a file, and each
+script; a figure with its unit (a build's minutes, must-fail edits, and the like) is one of the figures of
+docs/PERFORMANCE.md. What is counted there must be what is here: exactly, and of lines within a fiftieth. --write counts it
+anew. A commit at which something was measured is one of the repository. How many arguments there may be is said as the
+definition has it. docs/layers.svg has the crates of docs/layers.dot, by layers, docs/MAP.md those of crates.txt, and
+checks/README.md the scripts beside it. The formulas of docs/STATEMENT.md are those of the clause and of its definition.
 """
 import glob
 import os
@@ -24,7 +27,7 @@ from programs import C_PROGRAMS, SMALL
 # What documents name of the world outside: programs, and words of file formats and of the standards.
 OUTSIDE = set('''apt awk bash bzip2 c callgrind callgrind_annotate clang cmp cp cpufreq dd dot eel false gcc gcov gdb
 genhtml git graphviz kill kcachegrind lcov ld llvm lua make man massif mkdir nm nproc objcopy objdump od perf python3 qemu
-readelf rt sed sh sparc strip true valgrind x Fn'''.split())
+readelf rt sed sh sparc strip true valgrind x Fn __muldf3 __udivdi3'''.split())
 # Paths of every machine, and those that a document tells its reader to make.
 EVERYWHERE = re.compile(r'/(?:dev/(?:null|full|stdout)|tmp(?:/(?:walk|real)\b.*)?|usr/bin/(?:time|env))')
 
@@ -98,9 +101,10 @@ class Document:
         self.bad = []
 
     def check(self):
-        in_block = False
+        in_block, cells = False, set()
         for number, line in enumerate(self.text.split('\n'), 1):
             in_block ^= line.startswith('```')
+            cells = self.row(number, line, cells) if line.startswith('|') else set()
             self.links(number, line)
             self.machine_paths(number, line)
             if in_block or line.startswith('    '):
@@ -110,6 +114,15 @@ class Document:
                     self.span(number, span)
         self.clauses()
         return self.bad
+
+    def row(self, number, line, cells):
+        """The first cells of a table's rows up to this one, whose names no other row may have there."""
+        cell = line.strip('| ').partition(' | ')[0]
+        if cell in cells and '`' in cell and self.name != PERFORMANCE:  # whose rows are measurements
+            self.bad.append((number, cell, 'a row twice'))
+        for call, names in re.findall(r'`(\w+)`: ((?:(?:, )?`\w+`)+)', line):
+            self.clauses_of(number, call, names)
+        return cells | {cell}
 
     def links(self, number, line):
         for target in re.findall(r'\]\(([^)\s]+)\)', line):
@@ -123,7 +136,7 @@ class Document:
                 self.bad.append((number, target, 'no such heading'))
 
     def machine_paths(self, number, line):
-        for path in re.findall(r'(?<![\w.$})>*,-])/[a-z]\w*/[\w./-]*', line):
+        for path in re.findall(r'(?<![\w.$})>*,-])/[a-z]\w*/[\w./-]*|~/\w+', line):
             if not EVERYWHERE.fullmatch(path.rstrip('./')):
                 self.bad.append((number, path, 'a path of one machine'))
 
@@ -140,10 +153,10 @@ class Document:
         if not paths:
             self.bad.append((number, script, 'no such script'))
             return
-        texts = ''.join(read(path) for path in paths)
-        for option in re.findall(r'(?<=\s)(--[a-z]+)\b', rest):
-            if option not in texts and option[2:] not in texts and option != '--help':
-                self.bad.append((number, f'{script} {option}', 'no such option'))
+        known = {'help'}.union(*(re.findall(r"(?<=')(?:--)?([a-z-]+)(?=')", read(path)) for path in paths))
+        for option in re.findall(r'(?<=\s)--([a-z-]+)', rest):
+            if option not in known:
+                self.bad.append((number, f'{script} --{option}', 'no such option'))
 
     def span(self, number, span):
         words = span.split()
@@ -169,23 +182,33 @@ class Document:
 
     def clauses(self):
         """A clause must be one of the call that is named last before it, if that is one of the repository."""
-        known = self.repository.clauses
         for found in re.finditer(r'\bclauses? ((?:(?:, | and |, and )?`\w+`)+)', self.text):
             before = re.findall(r'`(\w+)`', self.text[max(0, found.start() - 200):found.start()])
-            for clause in re.findall(r'`(\w+)`', found[1]):
-                if before and before[-1] in known and clause not in known[before[-1]]:
-                    self.bad.append((self.text.count('\n', 0, found.start()) + 1, clause, f'no clause of {before[-1]}'))
+            self.clauses_of(self.text.count('\n', 0, found.start()) + 1, before[-1] if before else '', found[1])
+
+    def clauses_of(self, number, call, names):
+        """These names must be clauses of the call, if that has any that are named."""
+        known = self.repository.clauses.get(call)
+        for clause in re.findall(r'`(\w+)`', names) if known else ():
+            if clause not in known:
+                self.bad.append((number, clause, f'no clause of {call}'))
 
 
 # ---- all documents together
 
 README, REFERENCE, PERFORMANCE = 'README.md', 'docs/REFERENCE.md', 'docs/PERFORMANCE.md'
 MOST_LINES = 130
-UNITS = '|'.join(['processor minutes', 'minutes', 'GB of disk', 'GB of memory', 'GB afterwards', 'million steps a second',
-                  'times the steps', 'must-fail edits', 'programs with known ends'])
-FIGURE = re.compile(rf'(\d[\d.,]*(?: to \d[\d.,]*)?) ({UNITS})\b')
+KNOWN_ENDS = 'programs with known ends'
+UNITS = '|'.join(['processor minutes', 'minutes', 'MB', 'GB of disk', 'GB of memory', 'GB afterwards',
+                  'million steps a second', 'must-fail edits', KNOWN_ENDS])
+NUMBER = r'\d[\d.,]*'
+FIGURE = re.compile(rf'({NUMBER}(?: to {NUMBER})?) ({UNITS})\b|({NUMBER} to {NUMBER})\s+(times)\b|'
+                    rf'\b(?:the|all|its)\s+({NUMBER})\s+(programs)\b')
 PARSER, OUTCOMES = 'crates/eel_said/specs/Command.antt', 'crates/eel_said/src/outcome.rt'
 SHOWN, TRAPS = 'crates/eel_said/specs/Outcome.antt', 'crates/v8_step/specs/Traps.antt'
+MAP, ARGUMENTS = 'docs/MAP.md', 'crates/v8_process/specs/Arguments.antt'
+STATEMENT, EDITING = 'docs/STATEMENT.md', 'crates/edit_core/src/editing.rt'
+SAME = 'crates/edit_core/specs/Outwardly.antt'
 
 
 def section(text, heading):
@@ -247,6 +270,54 @@ def outcome_faults():
             yield f'{REFERENCE}: trap {int(number, 16)}, {name}, is left out'
 
 
+def limit_faults(documents):
+    """Limits that documents have otherwise than the definitions: of files, of a run's steps, and of arguments."""
+    texts = ''.join(read(name) for name in glob.glob('crates/eel_*/specs/**/*.antt', root_dir=TOP, recursive=True))
+    wanted = {f'{int(count):,} MiB' for count in re.findall(r'^\w+_limit = (\d+) \* 2 \^ 20$', texts, re.M)}
+    row = next(row for row in cells(section(read(REFERENCE), 'Statuses')) if row[0] == '66')
+    for limit in sorted(wanted ^ set(re.findall(r'[\d,]+ MiB', row[2]))):
+        yield f'{REFERENCE}: status 66: {limit}: in one of it and the definitions alone'
+    steps = int(re.search(r'^default_limit = (\d+)$', texts, re.M)[1])
+    if f'{steps:,} if none is given' not in read(REFERENCE):
+        yield f'{REFERENCE}: a run makes {steps:,} steps if no limit is given'
+    text = read(ARGUMENTS)
+    few, short = (int(re.search(pattern, text)[1]) for pattern in (r'length args ≤ (\d+)', r'strings args\) ≤ 2 \^ (\d+)'))
+    for name in documents:
+        for found in re.findall(r'at most ([\d,]+) words,?\s+and\s+([\d,]+)\s+bytes', read(name)):
+            if found != (f'{few:,}', f'{2 ** short:,}'):
+                yield f'{name}: arguments: {" words and ".join(found)} bytes: not so in {ARGUMENTS}'
+
+
+def crate_names():
+    return [line.partition(':')[0] for line in read('crates.txt').split('\n') if line and not line.startswith('#')]
+
+
+def list_faults():
+    """Crates that MAP.md lacks or has twice, and scripts that the documents on them leave out."""
+    crates = crate_names()
+    listed = re.findall(r'`(\w+)`', ' '.join(row[0] for row in cells(section(read(MAP), 'Crates'))))
+    for name in sorted({*crates, *listed}):
+        if crates.count(name) != listed.count(name):
+            yield f'{MAP}: the crate {name}: {listed.count(name)} times among the crates'
+    places = [('checks', read('checks/README.md'), os.R_OK), ('tools', section(read(REFERENCE), 'Scripts'), os.X_OK)]
+    for folder, text, mode in places:
+        for name in sorted(glob.glob('*.py', root_dir=os.path.join(TOP, folder))):
+            if os.access(os.path.join(TOP, folder, name), mode) and f'`{name}' not in text:
+                yield f'{folder}/{name}: left out of what {"checks/README.md" if folder == "checks" else REFERENCE} lists'
+
+
+def commit_faults():
+    """Commits at which something was measured that the repository, where it is whole, doesn't have."""
+    def git(*words, given=''):
+        return subprocess.run(['git', *words], cwd=TOP, input=given, capture_output=True, text=True).stdout
+
+    if git('rev-parse', '--is-shallow-repository').strip() == 'false':
+        named = sorted(set(re.findall(r'\b(?=[a-f\d]*\d)[a-f\d]{8}\b(?=\)| \||[:,])', read(PERFORMANCE))))
+        for line in git('cat-file', '--batch-check', given=''.join(f'{name}\n' for name in named)).split('\n'):
+            if line.endswith(' missing'):
+                yield f'{PERFORMANCE}: {line.split()[0]}: no commit'
+
+
 def lines_of(pattern, comment):
     """How many lines of code the files have: neither blank nor a comment."""
     names = glob.glob(os.path.join(TOP, 'crates', '*', pattern), recursive=True)
@@ -256,10 +327,9 @@ def lines_of(pattern, comment):
 
 def counted():
     """What PERFORMANCE.md says of the repository, with whether it is exact."""
-    crates = [line for line in read('crates.txt').split('\n') if line and not line.startswith('#')]
     edits = glob.glob(os.path.join(TOP, 'crates', '*', 'must-fail', '*.edit'))
-    return {'crates': (len(crates), True), 'must-fail edits': (len(edits), True),
-            'programs with known ends': (len(SMALL) + len(C_PROGRAMS), True),
+    return {'crates': (len(crate_names()), True), 'must-fail edits': (len(edits), True),
+            KNOWN_ENDS: (len(SMALL) + len(C_PROGRAMS), True),
             'lines of code with its contracts (`src`)': (lines_of('src/**/*.rt', '//'), False),
             'lines of definitions (`specs`)': (lines_of('specs/**/*.antt', '--'), False),
             'lines of proofs': (lines_of('proofs/**/*.antt', '--'), False)}
@@ -276,6 +346,13 @@ def write_counted():
         out.write(told)
 
 
+def figures_in(text):
+    """The figures in a text, each as its number, its unit, and the number of its line."""
+    for found in FIGURE.finditer(text):
+        number, unit = filter(None, found.groups())
+        yield number, KNOWN_ENDS if unit == 'programs' else unit, text.count('\n', 0, found.start()) + 1
+
+
 def figure_faults(documents):
     """Figures that PERFORMANCE.md lacks or has otherwise."""
     stated = read(PERFORMANCE)
@@ -283,13 +360,24 @@ def figure_faults(documents):
     for what, (count, exact) in counted().items():
         if what not in said or abs(said[what] - count) > (0 if exact else count // 50):
             yield f'{PERFORMANCE}: {what}: {said.get(what, "none")} where {count} are counted (--write)'
-    known = set(FIGURE.findall(section(stated, 'Figures'))) | {(f'{count:,}', what) for what, count in said.items()}
+    known = {figure[:2] for figure in figures_in(section(stated, 'Figures'))}
+    known |= {(f'{count:,}', what) for what, count in said.items()}
     known |= {(number, unit) for numbers, unit in known for number in numbers.split(' to ')}
     for name in documents:
-        for number, line in enumerate(read(name).split('\n'), 1) if name != PERFORMANCE else ():
-            for figure, unit in FIGURE.findall(line):
-                if (figure, unit) not in known:
-                    yield f'{name}:{number}: {figure} {unit}: not so in {PERFORMANCE}'
+        for figure, unit, number in figures_in(read(name)) if name != PERFORMANCE else ():
+            if (figure, unit) not in known:
+                yield f'{name}:{number}: {figure} {unit}: not so in {PERFORMANCE}'
+
+
+def formula_faults():
+    """Fields of the theorem, and its clause, that STATEMENT.md doesn't show as they are but for the numbers they begin with."""
+    shown = ' '.join(read(STATEMENT).split())
+    fields = re.findall(r'^  pub (\w+) : (.*(?:\n {6}.*)*)', read(SAME), re.M)
+    clause = re.findall(r'^ +ensures (same) (\{.*\})$', read(EDITING), re.M)
+    for name, formula in fields + clause[:1]:
+        plain = re.sub(r'^\(n(?: status)? : ℕ\) → ', '', ' '.join(formula.split())).replace('descriptor', 'd')
+        if plain not in shown:
+            yield f'{STATEMENT}: the formula of `{name}` is another one'
 
 
 def picture_faults():
@@ -307,8 +395,12 @@ def faults_of_all(documents):
         yield f'{README}: {lines} lines, {MOST_LINES} at most'
     yield from command_faults()
     yield from outcome_faults()
+    yield from limit_faults(documents)
     yield from figure_faults(documents)
+    yield from list_faults()
+    yield from commit_faults()
     yield from picture_faults()
+    yield from formula_faults()
 
 
 def main():
