@@ -6,11 +6,11 @@ is a fact about constants, which is a worked example. It is named where its name
 and of comments, in its own file or in one that imports it. Status 1 says that there is a lemma that nothing names. Of
 statements in two files those of two lines or more are told, and they are no fault: one may be out of the other's sight.
 """
-import argparse
 import re
 import sys
 from collections import Counter, defaultdict
 
+from called import parser_of
 from documents import files, read
 
 ENDS = r'\s(){}\[\];,"@.:'
@@ -72,7 +72,7 @@ class File:
 
 
 def main():
-    parser = argparse.ArgumentParser(description=__doc__, formatter_class=argparse.RawDescriptionHelpFormatter)
+    parser = parser_of(__doc__)
     parser.add_argument('crates', metavar='CRATE', nargs='*', help='these alone')
     crates = parser.parse_args().crates
     read_files = [File(name) for name in files() if re.match(r'crates/\w+/(src|specs|proofs)/', name)]
