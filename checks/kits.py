@@ -87,8 +87,8 @@ class Place:
 
     def __init__(self, folder):
         self.folder = folder
-        self.top, self.kit, self.bin, self.calls, self.provers = (
-            os.path.join(folder, name) for name in ('top', 'kit', 'bin', 'calls', 'provers'))
+        self.top, self.kit, self.bin, self.python, self.calls, self.provers = (
+            os.path.join(folder, name) for name in ('top', 'kit', 'bin', 'python', 'calls', 'provers'))
         self.out = f'{self.top}/crates/eel_main/out'
         self.status, self.told, self.called = None, '', []
         for part in PARTS:
@@ -98,7 +98,15 @@ class Place:
             os.chmod(f'{self.kit}/bin/{name}', 0o755)
         self.write(f'{self.bin}/rt', f'#!/bin/sh\nexec "{self.kit}/bin/rt" "$@"\n')  # no link, whose end would be the kit
         os.chmod(f'{self.bin}/rt', 0o755)
+        self.link(self.python, python3=sys.executable)
         self.fill()
+
+    @staticmethod
+    def link(folder, **programs):
+        """Makes a folder for a path, with these programs: that in which one stands may have an `rt` of its own."""
+        os.makedirs(folder)
+        for name, program in programs.items():
+            os.symlink(program, f'{folder}/{name}')
 
     def fill(self):
         """Writes the repository."""
@@ -125,7 +133,7 @@ class Place:
             opened.write(text)
 
     def given(self, version=KNOWN, path=None, **more):
-        path = path or f'{self.bin}:{os.path.dirname(sys.executable)}:/usr/bin:/bin'
+        path = path or f'{self.bin}:{self.python}:/usr/bin:/bin'
         return {'PATH': path, 'HOME': self.top, 'KIT': self.kit, 'CALLS': self.calls, 'VERSION': version, 'OPTIONS': OPTIONS,
                 'PROGRAM': PROGRAM, 'PROVERS': self.provers, 'REFUSES': '', 'BREAKS': '', 'BREAKS_ONCE': '',
                 'LASTS': '', 'FILLS': '', 'UNLINKED': '', **more}
@@ -309,15 +317,19 @@ def proof_fails(place):
     yield 'what is not linked is not built', place.status == 78 and not place.built() and 'is built' not in place.told
 
 
+def few(place):
+    """A folder with what the launcher calls of the system's programs."""
+    place.link(f'{place.folder}/few', **{name: shutil.which(name) for name in ('readlink', 'sed', 'cat', 'git')})
+    return f'{place.folder}/few'
+
+
 def no_rt(place):
-    place.eel(path=f'{os.path.dirname(sys.executable)}:/usr/bin:/bin')
+    place.eel(path=f'{few(place)}:{place.python}')
     yield 'ends', place.status == 78 and "isn't in the path" in place.told and place.told.count('\n') == 1
 
 
 def no_python(place):
-    for name in 'readlink', 'sed', 'cat', 'git':
-        os.symlink(shutil.which(name), f'{place.bin}/{name}')
-    place.eel(path=place.bin)
+    place.eel(path=f'{few(place)}:{place.bin}')
     yield 'ends', place.status == 78 and 'python3' in place.told and place.told.count('\n') == 1
 
 
