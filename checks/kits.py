@@ -398,6 +398,7 @@ def pulls(place):
         yield f'{way}: another commit is built', place.ways == {'rattle'} and 'sources have changed' in place.told
         place.write(f'{place.top}/README.md', way)
         place.commit()
+        place.git('pack-refs', '--all')
         place.eel()
         yield f'{way}: one of the same sources is not', not place.ways and place.status == 0 and not place.told
         yield f'{way}: and is noted', place.built().startswith(place.git('rev-parse', 'HEAD'))
@@ -492,7 +493,9 @@ def ended_by(number, of_build, version=KNOWN):
         place.ended(begun)
         yield 'ends with its status', place.status == 128 + number
         yield 'says so in one line', 'interrupted: what is proved stays' in place.told and 'Traceback' not in place.told
-        yield 'ends the provers', len(provers) == 2 and until(lambda: not any(map(lives, provers)))
+        yield 'ends the provers', len(provers) == 2 and until(lambda: not any(map(lives, provers)), 30)
+        for left in filter(lives, provers):
+            os.kill(left, signal.SIGKILL)
         yield 'and no other', bystander.poll() is None
         bystander.kill()
         place.eel(version=version)
