@@ -217,6 +217,15 @@ def lives(number):
         return False
 
 
+def left_of(provers):
+    """Which of these processes go on, once they have had time to end; they are ended, since they keep locks."""
+    until(lambda: not any(map(lives, provers)), 30)
+    left = list(filter(lives, provers))
+    for number in left:
+        os.kill(number, signal.SIGKILL)
+    return left
+
+
 def read_stat(number):
     with open(f'/proc/{number}/stat') as opened:
         return opened.read()
@@ -493,9 +502,7 @@ def ended_by(number, of_build, version=KNOWN):
         place.ended(begun)
         yield 'ends with its status', place.status == 128 + number
         yield 'says so in one line', 'interrupted: what is proved stays' in place.told and 'Traceback' not in place.told
-        yield 'ends the provers', len(provers) == 2 and until(lambda: not any(map(lives, provers)), 30)
-        for left in filter(lives, provers):
-            os.kill(left, signal.SIGKILL)
+        yield 'ends the provers', len(provers) == 2 and not left_of(provers)
         yield 'and no other', bystander.poll() is None
         bystander.kill()
         place.eel(version=version)
@@ -506,10 +513,11 @@ def ended_by(number, of_build, version=KNOWN):
 
 def ended_in_the_midst(place):
     begun = place.begin('./build.py', LASTS='middle')
-    place.until_proving()
+    provers = place.until_proving()
     until(lambda: os.path.exists(f'{place.top}/crates/side/out/rlib/made_from'))
     begun.terminate()
     place.ended(begun)
+    yield 'ends the provers', not left_of(provers)
     place.eel()
     yield 'only the rest is built', sorted(place.called) == ['eel_main', 'middle'] and place.status == 0
 
@@ -546,7 +554,7 @@ def two_builds(place):
     place.let_go(second)
     yield 'and says so', place.status == 0 and 'another call builds it' in place.told
     place.ended(first)
-    yield 'what a prover left running ends with it', until(lambda: not any(map(lives, provers)))
+    yield 'what a prover left running ends with it', not left_of(provers)
     yield 'each is built once', sorted(place.called) == ['eel_main', 'low', 'middle', 'side'] and place.status == 0
 
 
