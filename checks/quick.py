@@ -34,7 +34,7 @@ LONG = 'kits', 'wrong calls', 'models', 'traps'  # are begun first
 CROSS = ['sparc64-linux-gnu-gcc', 'clang', 'gcc', 'gcov', 'valgrind']
 FOREIGN = re.compile('GIT_(?!CONFIG_)[A-Z_]*|GIT_CONFIG_PARAMETERS|PYTHON.*|LC_.*|LANG.*|EEL_EXPLAIN|DESTDIR|CDPATH|ENV|BASH_ENV|'
                      'COLUMNS|POSIXLY_CORRECT|TAR_OPTIONS|GZIP')
-RUNNING, RUNNING_HELD = set(), threading.Lock()
+RUNNING, RUNNING_HELD = {}, threading.Lock()
 
 
 def script(name, *words):
@@ -81,10 +81,14 @@ def given_to_steps(folder):
     return {**own, 'PATH': path, 'TMPDIR': folder, 'LC_ALL': 'C', 'PYTHONDONTWRITEBYTECODE': '1'}
 
 
-def end_all(begun):
-    """Ends a command with all that it began in its session."""
+def end_all(begun, folder):
+    """Ends a command with all that it began: in its session, or in its folder for temporary files."""
     with contextlib.suppress(ProcessLookupError):
         os.killpg(begun.pid, signal.SIGKILL)
+    for number in filter(str.isdecimal, os.listdir('/proc')):
+        with contextlib.suppress(OSError):
+            if os.readlink(f'/proc/{number}/cwd').startswith(f'{folder}/'):
+                os.kill(int(number), signal.SIGKILL)
 
 
 def outcome_of(words, room):
@@ -93,14 +97,13 @@ def outcome_of(words, room):
         with RUNNING_HELD:
             begun = subprocess.Popen(words, cwd=TOP, env=given_to_steps(folder), stdin=subprocess.DEVNULL, stdout=told,
                                      stderr=subprocess.STDOUT, start_new_session=True)
-            RUNNING.add(begun)
+            RUNNING[begun] = folder
         try:
             status = begun.wait(LIMIT)
         except subprocess.TimeoutExpired:
             status = None
         with RUNNING_HELD:
-            end_all(begun)
-            RUNNING.remove(begun)
+            end_all(begun, RUNNING.pop(begun))
         begun.wait()
         told.seek(0)
         said = told.read()
@@ -177,8 +180,8 @@ def outcomes(steps, at_once, has_program, room):
 def end_by(number, room):
     """Ends the steps that run, and this, as a signal asks."""
     RUNNING_HELD.acquire()
-    for begun in RUNNING:
-        end_all(begun)
+    for begun, folder in RUNNING.items():
+        end_all(begun, folder)
     shutil.rmtree(room, ignore_errors=True)
     os._exit(128 + number)
 
