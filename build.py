@@ -461,9 +461,13 @@ def minutes_since(when):
 
 
 def write(name, text):
-    with open(f'{name}.new', 'w') as opened:
-        opened.write(text)
-    os.replace(f'{name}.new', name)
+    try:
+        with open(f'{name}.new', 'w') as opened:
+            opened.write(text)
+        os.replace(f'{name}.new', name)
+    except OSError as error:
+        error.filename = name  # which the system tells of an open alone
+        raise
 
 
 # Of what a library takes, two thirds are an archive that packs to a tenth. All are packed once the program is built, and

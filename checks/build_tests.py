@@ -2,16 +2,17 @@
 """Tests of build.py: in which order it builds, with how many processes, what it says of the time, and what it reads of the
 machine. Expected values are by hand, and of sha256sum and gzip."""
 import os
+import re
 import subprocess
 import sys
 import tempfile
-import time
+import threading
 import unittest
 from unittest import mock
 
 from called import TOP
 
-sys.path.append(TOP)
+sys.path.insert(0, TOP)
 sys.dont_write_bytecode = True
 import build
 
@@ -87,12 +88,14 @@ class Order(unittest.TestCase):
         self.assertEqual([name for name, _ in self.begun], ['low', 'tall'])
 
     def test_as_many_at_once_as_there_are_places(self):
-        running, most = set(), []
+        running, most, are_two = set(), [], threading.Event()
 
         def one(name, _):
             running.add(name)
             most.append(len(running))
-            time.sleep(0.05)
+            if len(running) == 2:
+                are_two.set()
+            are_two.wait(60)
             running.remove(name)
             return 0
         self.build.places, self.build.one = 2, one
@@ -118,13 +121,15 @@ class Order(unittest.TestCase):
         self.assertLessEqual(max(call.args[1] for call in waited.call_args_list), 1)
 
     def test_long_ones_are_told_of(self):
-        def one(name, _):
-            time.sleep(1.3 if name == 'low' else 0)
-            return 0
-        self.build.places, self.build.one = 2, one
-        with mock.patch.object(build, 'MEANWHILE', 0.5):
+        is_told = threading.Event()
+
+        def say(line):
+            if re.fullmatch(r'low has taken \d+ of about \d+ min', line):
+                is_told.set()
+        self.build.places, self.build.one = 2, lambda name, _: int(name == 'low' and not is_told.wait(60))
+        with mock.patch.object(build, 'MEANWHILE', 0.5), mock.patch.object(build, 'say', say):
             self.build.in_turn()
-        self.assertRegex(' '.join(self.said), r'\blow has taken 0 of about \d+ min')
+        self.assertTrue(is_told.is_set() and not self.build.failed)
 
 
 class Machine(unittest.TestCase):

@@ -2,7 +2,7 @@
 import os
 import sys
 
-sys.path.append(os.path.join(os.path.dirname(os.path.dirname(os.path.abspath(__file__))), 'tools'))
+sys.path.insert(1, os.path.join(os.path.dirname(os.path.dirname(os.path.abspath(__file__))), 'tools'))
 from scripting import BUILT, EEL, TOP, UNBUILT, Parser, note, read_file, refuse
 
 import argparse
@@ -57,7 +57,12 @@ def needs(*programs):
             refuse(f'{program} is missing')
 
 
-def heed_signals():
-    """Has what is called from here heed signals: a shell has commands ignore interrupts that it begins behind itself."""
+def heed_signals(end=None):
+    """Has what is called from here heed signals: a shell has commands ignore interrupts that it begins behind itself, and
+    where SIGCHLD is ignored, no status is known. Where `end` is given, it heeds those that this doesn't ignore."""
+    signal.pthread_sigmask(signal.SIG_SETMASK, [])
+    signal.signal(signal.SIGCHLD, signal.SIG_DFL)
     for number in signal.SIGINT, signal.SIGTERM, signal.SIGHUP:
-        signal.signal(number, signal.default_int_handler if number == signal.SIGINT else signal.SIG_DFL)
+        usual = signal.default_int_handler if number == signal.SIGINT else signal.SIG_DFL
+        if not end or signal.getsignal(number) != signal.SIG_IGN:
+            signal.signal(number, end or usual)

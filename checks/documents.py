@@ -40,8 +40,11 @@ COMMENTS = {'.rt': '//', '.antt': '--', '.py': '#', '.sh': '#', '.c': '//', '.h'
 
 def files():
     """The files of the repository: those that git has or would add, or where git tells none, all but what is made."""
-    listed = subprocess.run(['git', 'ls-files', '-co', '--exclude-standard'], cwd=TOP, capture_output=True, text=True)
-    names = listed.stdout.split('\n') if listed.returncode == 0 else walked()
+    try:
+        listed = subprocess.run(['git', 'ls-files', '-co', '--exclude-standard'], cwd=TOP, capture_output=True, text=True)
+        names = listed.stdout.split('\n') if listed.returncode == 0 else walked()
+    except OSError:
+        names = walked()
     return [name for name in names if name and os.path.exists(os.path.join(TOP, name))]
 
 

@@ -3,6 +3,7 @@
 should: which way they take with which kit, what they say, what they leave, and what signals, other calls, a gate, a pull and
 a full disk do to them. Nothing is proved. It takes half a minute. Where no small file system can be mounted, a full disk is
 left out, which is said."""
+import contextlib
 import fcntl
 import os
 import pty
@@ -17,7 +18,7 @@ from concurrent.futures import ThreadPoolExecutor
 
 from called import TOP, heed_signals, note, parser_of, read_file
 
-sys.path.append(TOP)
+sys.path.insert(0, TOP)
 sys.dont_write_bytecode = True
 import build
 
@@ -30,9 +31,9 @@ PROGRAM = '#!/bin/sh\\necho "made by $0"\\n'
 LAST = '''
 last() {
     [ "$1" = "$LASTS" ] || return 0
-    sleep 60 &
+    sleep 600 &
     echo "$$ $!" >>"$PROVERS"
-    while [ -e "$PROVERS" ] && [ ! -e "$PROVERS.go" ]; do sleep 0.05; done
+    while [ -e "$PROVERS" ] && [ ! -e "$PROVERS.go" ] && kill -0 $! 2>/dev/null; do sleep 0.05; done
 }
 '''
 RT = f'''#!/bin/sh
@@ -59,7 +60,7 @@ RATTLE = f'''#!/bin/sh
 case $* in *--help) echo "$OPTIONS"; exit ;; esac
 name= to= jobs= needs=
 while [ $# -gt 0 ]; do
-    case $1 in --crate-name) name=$2 ;; -o) to=$2 ;; --jobs) jobs=$2 ;; --extern) needs="$needs ${{2#*=}}" ;; esac
+    case $1 in --crate-name) name=$2 ;; -o) to=$2 ;; --jobs) jobs=$2 ;; --extern) needs="$needs${{2#*=}}:" ;; esac
     shift
 done
 echo "rattle build $name $jobs" >>"$CALLS"
@@ -67,6 +68,7 @@ last "$name"
 [ -z "$REFUSES" ] || exit 2
 [ "$name" != "$BREAKS" ] || exit 1
 [ "$name" != "$BREAKS_ONCE" ] || [ -e "$PROVERS.once" ] || {{ : >"$PROVERS.once"; exit 1; }}
+IFS=:
 for library in $needs; do
     case $library in */crates/*) [ -e "$library/toolchain/checked.a" ] || exit 1 ;; esac
 done
@@ -85,8 +87,8 @@ class Place:
 
     def __init__(self, folder):
         self.folder = folder
-        self.top, self.kit, self.bin, self.calls, self.provers = (
-            os.path.join(folder, name) for name in ('top', 'kit', 'bin', 'calls', 'provers'))
+        self.top, self.kit, self.bin, self.python, self.calls, self.provers = (
+            os.path.join(folder, name) for name in ('top', 'kit', 'bin', 'python', 'calls', 'provers'))
         self.out = f'{self.top}/crates/eel_main/out'
         self.status, self.told, self.called = None, '', []
         for part in PARTS:
@@ -94,9 +96,17 @@ class Place:
         for name, text in (('rt', RT), ('rattle', RATTLE), ('rattle-link', LINK)):
             self.write(f'{self.kit}/bin/{name}', text, anew=True)
             os.chmod(f'{self.kit}/bin/{name}', 0o755)
-        self.write(f'{self.bin}/rt', f'#!/bin/sh\nexec {self.kit}/bin/rt "$@"\n')  # no link, whose end would be the kit
+        self.write(f'{self.bin}/rt', f'#!/bin/sh\nexec "{self.kit}/bin/rt" "$@"\n')  # no link, whose end would be the kit
         os.chmod(f'{self.bin}/rt', 0o755)
+        self.link(self.python, python3=sys.executable)
         self.fill()
+
+    @staticmethod
+    def link(folder, **programs):
+        """Makes a folder for a path, with these programs: that in which one stands may have an `rt` of its own."""
+        os.makedirs(folder)
+        for name, program in programs.items():
+            os.symlink(program, f'{folder}/{name}')
 
     def fill(self):
         """Writes the repository."""
@@ -123,7 +133,7 @@ class Place:
             opened.write(text)
 
     def given(self, version=KNOWN, path=None, **more):
-        path = path or f'{self.bin}:{os.path.dirname(sys.executable)}:/usr/bin:/bin'
+        path = path or f'{self.bin}:{self.python}:/usr/bin:/bin'
         return {'PATH': path, 'HOME': self.top, 'KIT': self.kit, 'CALLS': self.calls, 'VERSION': version, 'OPTIONS': OPTIONS,
                 'PROGRAM': PROGRAM, 'PROVERS': self.provers, 'REFUSES': '', 'BREAKS': '', 'BREAKS_ONCE': '',
                 'LASTS': '', 'FILLS': '', 'UNLINKED': '', **more}
@@ -183,7 +193,8 @@ class Place:
 
     def git(self, *words):
         author = ['-c', 'user.name=a', '-c', 'user.email=a@b', '-c', 'init.defaultBranch=main']
-        subprocess.run(['git', *author, *words], cwd=self.top, env=self.given(), capture_output=True, check=True)
+        return subprocess.run(['git', *author, *words], cwd=self.top, env=self.given(), capture_output=True, text=True,
+                              check=True).stdout.strip()
 
     def commit(self):
         self.git('add', '-A')
@@ -204,6 +215,15 @@ def lives(number):
         return read_stat(number).rpartition(')')[2].split()[0] not in 'ZX'
     except OSError:
         return False
+
+
+def left_of(provers):
+    """Which of these processes go on, once they have had time to end; they are ended, since they keep locks."""
+    until(lambda: not any(map(lives, provers)), 30)
+    left = list(filter(lives, provers))
+    for number in left:
+        os.kill(number, signal.SIGKILL)
+    return left
 
 
 def read_stat(number):
@@ -306,15 +326,19 @@ def proof_fails(place):
     yield 'what is not linked is not built', place.status == 78 and not place.built() and 'is built' not in place.told
 
 
+def few(place):
+    """A folder with what the launcher calls of the system's programs."""
+    place.link(f'{place.folder}/few', **{name: shutil.which(name) for name in ('readlink', 'sed', 'cat', 'git')})
+    return f'{place.folder}/few'
+
+
 def no_rt(place):
-    place.eel(path=f'{os.path.dirname(sys.executable)}:/usr/bin:/bin')
+    place.eel(path=f'{few(place)}:{place.python}')
     yield 'ends', place.status == 78 and "isn't in the path" in place.told and place.told.count('\n') == 1
 
 
 def no_python(place):
-    for name in 'readlink', 'sed', 'cat', 'git', 'printf':
-        os.symlink(shutil.which(name), f'{place.bin}/{name}')
-    place.eel(path=place.bin)
+    place.eel(path=f'{few(place)}:{place.bin}')
     yield 'ends', place.status == 78 and 'python3' in place.told and place.told.count('\n') == 1
 
 
@@ -383,10 +407,10 @@ def pulls(place):
         yield f'{way}: another commit is built', place.ways == {'rattle'} and 'sources have changed' in place.told
         place.write(f'{place.top}/README.md', way)
         place.commit()
+        place.git('pack-refs', '--all')
         place.eel()
         yield f'{way}: one of the same sources is not', not place.ways and place.status == 0 and not place.told
-        commit = subprocess.run(['git', 'rev-parse', 'HEAD'], cwd=place.top, capture_output=True, text=True).stdout
-        yield f'{way}: and is noted', place.built().startswith(commit.strip())
+        yield f'{way}: and is noted', place.built().startswith(place.git('rev-parse', 'HEAD'))
     place.call('rt', 'ci')
     place.change('low', '// pulled behind it\n')
     place.commit()
@@ -439,20 +463,35 @@ def on_a_terminal(place):
     for given, line in ((['what'], 'eel: there is no command `what`'), (['trace', 'x'], 'eel: 1 more word wanted'),
                         (['show', 'x', 'y'], 'eel: `y` is one word too many'),
                         (['edit', 'x', 'y', 'trace', '99'], 'eel: `99` is no number from 1 to 16')):
+        status, told = on_terminal(place, given)
+        if status is None:
+            note('there are no terminals: what is said on one is left out')
+            return
+        yield f'{given}: is explained', line in told.split('\r\n') and status == 64
+
+
+def on_terminal(place, given):
+    """The status of a call whose error stream is a terminal, and what stands there; or nothing where there are none."""
+    try:
         ours, theirs = pty.openpty()
-        done = subprocess.run(['./eel', *given], cwd=place.top, env=place.given(),
-                              stdin=subprocess.DEVNULL, stdout=subprocess.DEVNULL, stderr=theirs)
-        os.close(theirs)
-        told = os.read(ours, 9999).decode().split('\r\n')
-        os.close(ours)
-        yield f'{given}: is explained', line in told and done.returncode == 64
+    except OSError:
+        return None, ''
+    begun = subprocess.Popen(['./eel', *given], cwd=place.top, env=place.given(), stdin=subprocess.DEVNULL,
+                             stdout=subprocess.DEVNULL, stderr=theirs)
+    os.close(theirs)
+    told = b''
+    with contextlib.suppress(OSError):  # which says that nobody has it open any more
+        while piece := os.read(ours, 9999):
+            told += piece
+    os.close(ours)
+    return begun.wait(), told.decode()
 
 
 # Signals.
 
 def ended_by(number, of_build, version=KNOWN):
     def case(place):
-        bystander = subprocess.Popen(['sleep', '60'], stdin=subprocess.DEVNULL, stdout=subprocess.DEVNULL)
+        bystander = subprocess.Popen(['sleep', '600'], stdin=subprocess.DEVNULL, stdout=subprocess.DEVNULL)
         own = ['./build.py'] if of_build else ['./eel', 'show', 'x']
         begun = place.begin(*own, LASTS='low', version=version)
         provers = place.until_proving()
@@ -463,7 +502,7 @@ def ended_by(number, of_build, version=KNOWN):
         place.ended(begun)
         yield 'ends with its status', place.status == 128 + number
         yield 'says so in one line', 'interrupted: what is proved stays' in place.told and 'Traceback' not in place.told
-        yield 'ends the provers', len(provers) == 2 and until(lambda: not any(map(lives, provers)), 5)
+        yield 'ends the provers', len(provers) == 2 and not left_of(provers)
         yield 'and no other', bystander.poll() is None
         bystander.kill()
         place.eel(version=version)
@@ -474,10 +513,11 @@ def ended_by(number, of_build, version=KNOWN):
 
 def ended_in_the_midst(place):
     begun = place.begin('./build.py', LASTS='middle')
-    place.until_proving()
+    provers = place.until_proving()
     until(lambda: os.path.exists(f'{place.top}/crates/side/out/rlib/made_from'))
     begun.terminate()
     place.ended(begun)
+    yield 'ends the provers', not left_of(provers)
     place.eel()
     yield 'only the rest is built', sorted(place.called) == ['eel_main', 'middle'] and place.status == 0
 
@@ -514,7 +554,7 @@ def two_builds(place):
     place.let_go(second)
     yield 'and says so', place.status == 0 and 'another call builds it' in place.told
     place.ended(first)
-    yield 'what a prover left running ends with it', until(lambda: not any(map(lives, provers)), 5)
+    yield 'what a prover left running ends with it', not left_of(provers)
     yield 'each is built once', sorted(place.called) == ['eel_main', 'low', 'middle', 'side'] and place.status == 0
 
 
@@ -567,7 +607,7 @@ def full_disk(place):
     for size, what in ('90m', 'before'), ('260m', 'on the way'):
         os.mkdir(place.top)
         words = ['mount', '-t', 'tmpfs', '-o', f'size={size}', 'tmpfs', place.top]
-        if subprocess.run(words, capture_output=True).returncode:
+        if not shutil.which('mount') or subprocess.run(words, capture_output=True).returncode:
             note('no small file system can be mounted: a full disk is left out')
             return
         try:
@@ -607,7 +647,7 @@ def outcome(case):
     """How many claims a case has, and a line for each that doesn't hold."""
     claims, faults = 0, []
     # A stand-in that is ending may still write there.
-    with tempfile.TemporaryDirectory(ignore_cleanup_errors=True) as folder:
+    with tempfile.TemporaryDirectory(prefix='a place ', ignore_cleanup_errors=True) as folder:
         place = Place(folder)
         for what, holds in case(place):
             claims += 1

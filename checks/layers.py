@@ -7,12 +7,12 @@ leads to. What differs is told, a line each, and status 1 says that something do
 right: so a new crate is a line `NAME:` in crates.txt and a word in layers.dot and layers.svg, and a new dependency of a
 low crate is nothing but its `use`.
 """
-import argparse
 import os
 import re
 import sys
 
-from documents import TOP, files, read
+from called import TOP, parser_of
+from documents import files, read
 
 CRATES, LAYERS = 'crates.txt', 'docs/layers.dot'
 COMMENT = {'.rt': '//', '.antt': '--'}
@@ -64,7 +64,7 @@ def in_order(listed, below):
 
 
 def main():
-    parser = argparse.ArgumentParser(description=__doc__, formatter_class=argparse.RawDescriptionHelpFormatter)
+    parser = parser_of(__doc__)
     parser.add_argument('--write', action='store_true', help='put crates.txt and layers.dot right')
     write = parser.parse_args().write
     text, drawn = read(CRATES), read(LAYERS)

@@ -8,11 +8,11 @@ Two statements are the same if they differ in the names and types of what they b
 are no fault: one may be out of the other's sight, or speak of its own module's parameters. A type of types alone, as a
 definition has, is no statement.
 """
-import argparse
 import re
 import sys
 from collections import Counter, defaultdict
 
+from called import parser_of
 from documents import files, read
 
 ENDS = r'\s(){}\[\];,"@.:'
@@ -89,7 +89,7 @@ class File:
 
 
 def main():
-    parser = argparse.ArgumentParser(description=__doc__, formatter_class=argparse.RawDescriptionHelpFormatter)
+    parser = parser_of(__doc__)
     parser.add_argument('crates', metavar='CRATE', nargs='*', help='these alone')
     crates = parser.parse_args().crates
     read_files = [File(name) for name in files() if re.match(r'crates/\w+/(src|specs|proofs)/', name)]

@@ -4,20 +4,24 @@ answer by a clear line and its status, and not by a traceback. So must profile.p
 outputs that can't be written; a script that is interrupted or ended; and what can't be done must be refused before the
 input is read, by a line that helps. What `eel --install` puts in place must work and go again. Prints a line for each that
 doesn't."""
+import contextlib
+import fcntl
 import os
 import signal
 import subprocess
 import sys
 import tempfile
+import termios
 import time
 from concurrent.futures import ThreadPoolExecutor
 from itertools import chain
+from shlex import quote
 
 from called import EEL, TOP, built, heed_signals, parser_of
 from programs import Program
 
 WORDS, CONTENTS, MISSING, DEVICE = 64, 65, 66, 74
-READ_CALL = {'x86_64': '0 ', 'aarch64': '63 '}  # as /proc tells which call a process waits in
+SECONDS = 300  # after which a script hangs
 PROGRAM, DATA = os.path.join(TOP, 'examples', 'three_words'), os.path.join(TOP, 'crates', 'program_runs', 'data')
 SHOWN = ['annotate.py', 'graph.py', 'source_counts.py']
 WANT_MORE = ['source_counts.py', 'compare.py', 'edges.py', 'patch.py']  # words than one
@@ -53,8 +57,9 @@ def wrong_calls(folder):
     """Calls that must be refused, each with its status."""
     for path in scripts():
         name, of_tools = os.path.basename(path), os.path.dirname(path) == os.path.join(TOP, 'tools')
+        if name != 'build_tests.py':  # whose words unittest takes
+            yield [path, '--no-such-option'], WORDS
         if of_tools or name in TAKE_FILES:
-            yield [path, '--no-such-option'], WORDS if of_tools else True
             for bad in bad_files(folder):
                 status = (CONTENTS if os.path.isfile(bad) else MISSING) if of_tools else True
                 alone = {'check.py': 1}.get(name, CONTENTS) if status == CONTENTS else status
@@ -73,38 +78,40 @@ def wrong_calls(folder):
 
 def streams(folder):
     """Commands of bash with closed streams, pipes and outputs that can't be written, each with its status."""
-    tools, counts = os.path.join(TOP, 'tools'), os.path.join(folder, 'counts')
-    yield f'{tools}/profile.py --counts {counts} {PROGRAM} </dev/null', 0
-    yield f'{tools}/profile.py {PROGRAM} <&-', 0
-    yield f'{tools}/profile.py {PROGRAM} </dev/null >&-', DEVICE
-    yield f'{tools}/profile.py {PROGRAM} </dev/null 2>&-', 0
-    yield f'{tools}/profile.py {PROGRAM} </dev/null >/dev/full', DEVICE
-    yield f'{tools}/profile.py --all {PROGRAM} </dev/null | head -1; exit ${{PIPESTATUS[0]}}', 0
-    yield f'TMPDIR={folder}/missing {tools}/profile.py {PROGRAM} </dev/null', 0
-    yield f'{tools}/profile.py -n 0 {PROGRAM} </dev/null', 3
+    tools, counts, folder = map(quote, [os.path.join(TOP, 'tools'), os.path.join(folder, 'counts'), folder])
+    program = quote(PROGRAM)
+    yield f'{tools}/profile.py --counts {counts} {program} </dev/null', 0
+    yield f'{tools}/profile.py {program} <&-', 0
+    yield f'{tools}/profile.py {program} </dev/null >&-', DEVICE
+    yield f'{tools}/profile.py {program} </dev/null 2>&-', 0
+    yield f'{tools}/profile.py {program} </dev/null >/dev/full', DEVICE
+    yield f'{tools}/profile.py --all {program} </dev/null | head -1; exit ${{PIPESTATUS[0]}}', 0
+    yield f'TMPDIR={folder}/missing {tools}/profile.py {program} </dev/null', 0
+    yield f'{tools}/profile.py -n 0 {program} </dev/null', 3
     for option in '--counts', '--output':
-        yield f'{tools}/profile.py {option} {folder}/missing/out {PROGRAM} </dev/null', DEVICE
+        yield f'{tools}/profile.py {option} {folder}/missing/out {program} </dev/null', DEVICE
     for script in SHOWN:
-        yield f'{tools}/{script} {PROGRAM} <(cat {counts})', 0
-        yield f'cat {counts} | {tools}/{script} {PROGRAM} /dev/stdin', 0
+        yield f'{tools}/{script} {program} <(cat {counts})', 0
+        yield f'cat {counts} | {tools}/{script} {program} /dev/stdin', 0
     yield f'{tools}/merge.py <(cat {counts}) {counts}', 0
-    yield f'{tools}/compare.py {PROGRAM} <(cat {counts}) {PROGRAM} {counts}', 0
+    yield f'{tools}/compare.py {program} <(cat {counts}) {program} {counts}', 0
 
 
 def told(folder):
     """Commands of bash in a folder, each with its status and what it must say. Where input is never given, it is refused
     before that is read."""
-    tools, never = os.path.join(TOP, 'tools'), '< <(exec sleep 60 >/dev/null 2>&1)'
-    yield f'{tools}/profile.py --lcov {PROGRAM} {never}', CONTENTS, 'has no line tables'
-    yield f'{tools}/profile.py --annotate --routine plac {DATA}/queens {never}', WORDS, 'there is place.constprop.0'
-    yield f'{tools}/profile.py {sys.executable} {never}', CONTENTS, 'file fault'
-    yield f'{tools}/profile.py --names {folder}/text {PROGRAM} {never}', CONTENTS, 'no line of nm'
-    yield f'{tools}/profile.py --output {folder}/missing/out {PROGRAM} {never}', DEVICE, 'No such file or directory'
+    tools, program, data, python, folder = map(quote, [os.path.join(TOP, 'tools'), PROGRAM, DATA, sys.executable, folder])
+    never = f'0<>{folder}/never'  # a pipe that is its own writer
+    yield f'{tools}/profile.py --lcov {program} {never}', CONTENTS, 'has no line tables'
+    yield f'{tools}/profile.py --annotate --routine plac {data}/queens {never}', WORDS, 'there is place.constprop.0'
+    yield f'{tools}/profile.py {python} {never}', CONTENTS, 'file fault'
+    yield f'{tools}/profile.py --names {folder}/text {program} {never}', CONTENTS, 'no line of nm'
+    yield f'{tools}/profile.py --output {folder}/missing/out {program} {never}', DEVICE, 'No such file or directory'
     yield f'{tools}/profile.py', WORDS, 'required: FILE\n'
-    yield f'{tools}/profile.py --output /dev/full {DATA}/queens </dev/null', DEVICE, '/dev/full can\'t be written'
-    yield f'{tools}/profile.py {DATA}/jump_to_zero </dev/null', 3, 'it jumped there from 00010054'
-    yield f'cd {folder} && cp {DATA}/queens ./-dash && {tools}/profile.py --annotate -- -dash </dev/null', 0, 'place.constprop.0'
-    yield f'{tools}/check.py {sys.executable}', 1, 'another processor' if os.uname().machine == 'x86_64' else 'file fault'
+    yield f'{tools}/profile.py --output /dev/full {data}/queens </dev/null', DEVICE, '/dev/full can\'t be written'
+    yield f'{tools}/profile.py {data}/jump_to_zero </dev/null', 3, 'it jumped there from 00010054'
+    yield f'cd {folder} && cp {data}/queens ./-dash && {tools}/profile.py --annotate -- -dash </dev/null', 0, 'place.constprop.0'
+    yield f'{tools}/check.py {python}', 1, 'another processor' if os.uname().machine == 'x86_64' else 'file fault'
 
 
 def interrupted(folder):
@@ -126,9 +133,15 @@ def fault_of_end(words, number, runs):
     with tempfile.TemporaryDirectory() as room:
         with subprocess.Popen([f'{TOP}/tools/{words[0]}', *words[1:]], stdin=subprocess.PIPE, stdout=subprocess.PIPE,
                               stderr=subprocess.PIPE, env={**os.environ, 'TMPDIR': room}) as begun:
-            wait_for(begun, runs)
+            if not wait_for(begun, runs):
+                begun.kill()
+                return f'{" ".join(words)}: does not come to its {"run" if runs else "input"}'
             begun.send_signal(number)
-            _, errors = begun.communicate()
+            try:
+                _, errors = begun.communicate(timeout=SECONDS)
+            except subprocess.TimeoutExpired:
+                begun.kill()
+                return f'{" ".join(words)}: goes on behind signal {number}'
         profiles = runs and number == signal.SIGINT
         status = 3 if profiles else -number if number == signal.SIGINT else 128 + number
         if begun.returncode != status or b'Traceback' in errors or profiles != (b'interrupted' in errors):
@@ -136,28 +149,32 @@ def fault_of_end(words, number, runs):
         return f'{" ".join(words)}: leaves {os.listdir(room)} by signal {number}' if os.listdir(room) else None
 
 
-def content(name):
-    with open(name) as opened:
-        return opened.read()
-
-
 def wait_for(begun, runs):
-    """Waits until a script has called `eel run`, or until it stands in one call of the system, which reads its input."""
-    before = None
-    for _ in range(300):
-        time.sleep(0.2)
-        try:
-            if runs:
-                below = content(f'/proc/{begun.pid}/task/{begun.pid}/children').split()
-                if any('\0run\0' in content(f'/proc/{child}/cmdline') for child in below):
-                    return time.sleep(0.5)
-            else:
-                before, now = content(f'/proc/{begun.pid}/syscall'), before
-                if before == now and before.startswith(READ_CALL.get(os.uname().machine, '0 ')):
-                    return None
-        except OSError:
-            pass
-    return None
+    """Waits until a script has read what it is given of its input, or until its program has run for a tenth of a second,
+    and answers whether it has."""
+    end, tenth = time.monotonic() + SECONDS, os.sysconf('SC_CLK_TCK') // 10
+    if not runs:
+        os.write(begun.stdin.fileno(), b' ')
+    while time.monotonic() < end:
+        if ticks_of_run(begun.pid) > tenth if runs else fcntl.ioctl(begun.stdin, termios.FIONREAD, bytes(4)) == bytes(4):
+            return True
+        time.sleep(0.05)
+    return False
+
+
+def ticks_of_run(parent):
+    """How long an `eel run` below a process has run."""
+    for number in filter(str.isdecimal, os.listdir('/proc')):
+        with contextlib.suppress(OSError):  # of one that has ended
+            after = content(f'/proc/{number}/stat').rpartition(')')[2].split()
+            if int(after[1]) == parent and '\0run\0' in content(f'/proc/{number}/cmdline'):
+                return int(after[11]) + int(after[12])
+    return 0
+
+
+def content(name):
+    with open(name, errors='replace') as opened:
+        return opened.read()
 
 
 def faults_installed(folder):
@@ -178,9 +195,9 @@ def fault_of(words, refused, told=''):
     """What is wrong with the answer to a call, or None. It is refused by a status that isn't 0, or by that number, and says
     what is wanted."""
     try:
-        called = subprocess.run(words, stdin=subprocess.DEVNULL, capture_output=True, timeout=600)
+        called = subprocess.run(words, stdin=subprocess.DEVNULL, capture_output=True, timeout=SECONDS)
     except subprocess.TimeoutExpired:
-        return 'it went on for ten minutes'
+        return f'it goes on behind {SECONDS} seconds'
     if b'Traceback' in called.stderr:
         return called.stderr.decode('utf-8', 'replace').strip().split('\n')[-1]
     wrong = (called.returncode != 0) != refused if isinstance(refused, bool) else called.returncode != refused
@@ -196,6 +213,7 @@ def main():
     heed_signals()
     built(EEL)
     with tempfile.TemporaryDirectory() as folder:
+        os.mkfifo(os.path.join(folder, 'never'))
         calls = [([path, '--help'], False) for path in scripts()]
         calls += wrong_calls(folder)
         calls += [(['bash', '-c', command], *wanted) for command, *wanted in told(folder)]
@@ -204,7 +222,7 @@ def main():
         for fault in chain(faults_installed(folder), interrupted(folder)):
             print(fault, flush=True)
             faults += 1
-        with ThreadPoolExecutor(len(os.sched_getaffinity(0))) as pool:
+        with ThreadPoolExecutor(min(8, len(os.sched_getaffinity(0)))) as pool:
             found = chain(zip(calls, pool.map(lambda call: fault_of(*call), calls)), ((call, fault_of(*call)) for call in in_turn))
             for (words, *_), fault in found:
                 if fault:

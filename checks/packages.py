@@ -11,7 +11,7 @@ import sys
 import tarfile
 import tempfile
 
-from called import BUILT, EEL, TOP, built, parser_of, read_file
+from called import BUILT, EEL, TOP, built, note, parser_of, read_file
 
 EXAMPLE = os.path.join(TOP, 'examples', 'three_words')
 COMMANDS = ['eel', 'eel-annotate', 'eel-check', 'eel-compare', 'eel-edges', 'eel-graph', 'eel-lines', 'eel-merge', 'eel-patch',
@@ -22,7 +22,7 @@ def call(*words, cwd=None, umask=-1, **variables):
     """The status of a call, and what it says, in an environment with these variables alone."""
     path = f'{os.path.dirname(sys.executable)}:/usr/bin:/bin'
     done = subprocess.run(words, stdin=subprocess.DEVNULL, capture_output=True, text=True, cwd=cwd, umask=umask,
-                          env={'PATH': path, 'PYTHONDONTWRITEBYTECODE': '1', **variables})
+                          env={'PATH': path, 'TMPDIR': tempfile.gettempdir(), 'PYTHONDONTWRITEBYTECODE': '1', **variables})
     return done.returncode, done.stdout + done.stderr
 
 
@@ -108,12 +108,23 @@ def installed(folder):
             yield f'eel {option} goes over what is there'
 
 
+def by_git(*words):
+    """What git prints of this folder, or nothing where it has no such folder, or one that it doesn't trust."""
+    try:
+        return subprocess.run(['git', '-C', TOP, *words], capture_output=True).stdout
+    except OSError:
+        return b''
+
+
 def of_a_tarball(folder):
     """The sources without git, which know their commit, and run a program that was built elsewhere."""
+    archive, head = by_git('archive', 'HEAD'), by_git('rev-parse', 'HEAD').decode()
+    if not archive:
+        note('git tells nothing of this folder: a tarball of the sources is left out')
+        return
     os.mkdir(f'{folder}/sources')
-    archive = subprocess.run(['git', '-C', TOP, 'archive', 'HEAD'], capture_output=True, check=True).stdout
     subprocess.run(['tar', '-xC', f'{folder}/sources'], input=archive, check=True)
-    eel, head = f'{folder}/sources/eel', subprocess.run(['git', '-C', TOP, 'rev-parse', 'HEAD'], capture_output=True, text=True).stdout
+    eel = f'{folder}/sources/eel'
     if head[:12] not in (told := call(eel, '--version')[1]):
         yield f'eel --version of a tarball: {told}'
     program = shutil.copy(BUILT, f'{folder}/a program')

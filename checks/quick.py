@@ -4,24 +4,37 @@
 Each step is another program, or another script of checks/; one that this machine lacks is left out, which is said. The
 steps that call `eel` take the program that stands in crates/eel_main/out, as `./eel`, build.py or .ci/run left it. All is
 said on the error stream, so that the last line of a gate before it stays the last one. The status is 1 where a step fails.
+
+A step has no terminal and no input, and a folder of its own for temporary files; it has none of the variables by which a
+caller changes what programs print, or where they write. One that takes too long is ended, with all that it began.
 """
+import contextlib
 import os
+import re
 import shutil
+import signal
 import subprocess
 import sys
 import tempfile
+import threading
 import time
-from concurrent.futures import ThreadPoolExecutor
+from collections import Counter
+from concurrent.futures import ThreadPoolExecutor, as_completed
 
-from called import BUILT, EEL, TOP, note, parser_of
+from called import BUILT, EEL, TOP, heed_signals, parser_of
 
 LIMIT = 900  # seconds of a step: a busy machine may take many times as long as an idle one
 SHELL = ['eel', 'tools/terminal.sh', 'tools/install.sh', '.ci/run', 'examples/c/build.sh', 'examples/real/build.sh']
 # Words are split on purpose, and variables are set to nothing.
 KNOWN = 'SC1007,SC1091,SC2013,SC2015,SC2016,SC2034,SC2046,SC2086,SC2115,SC2148,SC2154,SC2207,SC2317'
-PYTHON = sys.executable
+# What finds faults in texts, with the version that finds none here: another one may ask for more.
+LINTERS = {'shellcheck': '0.9.0', 'pyflakes3': '2.5.0', 'groff': '1.22.4'}
+PYTHON = sys.executable or shutil.which('python3')
 LONG = 'kits', 'wrong calls', 'models', 'traps'  # are begun first
 CROSS = ['sparc64-linux-gnu-gcc', 'clang', 'gcc', 'gcov', 'valgrind']
+FOREIGN = re.compile('GIT_(?!CONFIG_)[A-Z_]*|GIT_CONFIG_PARAMETERS|PYTHON.*|LC_.*|LANG.*|EEL_EXPLAIN|DESTDIR|CDPATH|ENV|BASH_ENV|'
+                     'COLUMNS|POSIXLY_CORRECT|TAR_OPTIONS|GZIP')
+RUNNING, RUNNING_HELD = {}, threading.Lock()
 
 
 def script(name, *words):
@@ -40,77 +53,156 @@ STEPS = [('shell scripts', ['shellcheck', '-s', 'sh', '-e', KNOWN, *SHELL], [], 
          ('layers', script('layers.py'), [], False),
          ('lemmas', script('lemmas.py'), [], False),
          ('the statement', script('statement.py'), [], False),
+         ('models', script('write_programs.py', '--check'), [], False),
          ('wrong calls', script('misuse.py'), ['bash'], True),
-         ('a package', script('packages.py'), ['git'], True),
+         ('a package', script('packages.py'), ['tar'], True),
          ('a file for callgrind', script('beside_callgrind.py', 'fractions'), [*CROSS, 'llvm-symbolizer'], True),
+         ('the statement\'s run', script('two_runs.py'), [], True),
          ('a run beside its walk', script('beside_walk.py', 'examples/three_words'), [], True),
          ('each script', script('all_tools.py', 'standing'), [], True),
          ('each script, with lines', script('all_tools.py', 'calculator'), CROSS, True),
          ('traps', script('all_tools.py', 'endings'), CROSS[:1], True)]
 
 
-def models_write_what_stands():
-    """Whether the models write the files of program_runs that stand here, in a copy of the repository."""
-    with tempfile.TemporaryDirectory() as folder:
-        copy, data = os.path.join(folder, 'eel'), os.path.join('crates', 'program_runs')
-        shutil.copytree(TOP, copy, symlinks=True, ignore=shutil.ignore_patterns('.git', 'out', '__pycache__'))
-        done = subprocess.run([PYTHON, f'{copy}/checks/write_programs.py'], cwd=copy, capture_output=True)
-        told = subprocess.run(['diff', '-rq', '-x', 'out', f'{TOP}/{data}', f'{copy}/{data}'], capture_output=True)
-        return done.returncode or told.returncode, done.stderr + told.stdout
+def write(content):
+    """Writes to the error stream, if there is one."""
+    with contextlib.suppress(OSError):
+        os.write(2, content)
+
+
+def say(line):
+    write(f'quick.py: {line}\n'.encode(errors='replace'))
+
+
+def given_to_steps(folder):
+    """The environment of a step whose temporary files go to this folder."""
+    own = {name: value for name, value in os.environ.items() if not FOREIGN.fullmatch(name)}
+    path = own.get('PATH') or os.defpath
+    return {**own, 'PATH': path, 'TMPDIR': folder, 'LC_ALL': 'C', 'PYTHONDONTWRITEBYTECODE': '1'}
+
+
+def end_all(begun, folder):
+    """Ends a command with all that it began: in its session, or in its folder for temporary files."""
+    with contextlib.suppress(ProcessLookupError):
+        os.killpg(begun.pid, signal.SIGKILL)
+    for number in filter(str.isdecimal, os.listdir('/proc')):
+        with contextlib.suppress(OSError):
+            if os.readlink(f'/proc/{number}/cwd').startswith(f'{folder}/'):
+                os.kill(int(number), signal.SIGKILL)
+
+
+def outcome_of(words, room):
+    """The status of a command in a session of its own, and what it said."""
+    with tempfile.TemporaryDirectory(dir=room, ignore_cleanup_errors=True) as folder, open(f'{folder}.told', 'w+b') as told:
+        with RUNNING_HELD:
+            begun = subprocess.Popen(words, cwd=TOP, env=given_to_steps(folder), stdin=subprocess.DEVNULL, stdout=told,
+                                     stderr=subprocess.STDOUT, start_new_session=True)
+            RUNNING[begun] = folder
+        try:
+            status = begun.wait(LIMIT)
+        except subprocess.TimeoutExpired:
+            status = None
+        with RUNNING_HELD:
+            end_all(begun, RUNNING.pop(begun))
+        begun.wait()
+        told.seek(0)
+        said = told.read()
+    return (status, said) if status is not None else (1, said + b'it took too long\n')
+
+
+def answer_of(*words, given=b''):
+    """What a short command prints, or None where there is no such one, or it fails."""
+    with contextlib.suppress(OSError, subprocess.TimeoutExpired):
+        done = subprocess.run(words, input=given, stdout=subprocess.PIPE, stderr=subprocess.DEVNULL, timeout=LIMIT)
+        return None if done.returncode else done.stdout.decode(errors='replace')
+    return None
 
 
 def is_built():
     """Whether the program stands there, of these sources: else `eel` would begin with a build."""
-    said = subprocess.run([EEL, '--version'], stdin=subprocess.DEVNULL, capture_output=True, text=True).stdout
-    return os.access(BUILT, os.X_OK) and 'not built' not in said and 'have changed' not in said
+    said = answer_of(EEL, '--version')
+    return os.access(BUILT, os.X_OK) and said is not None and 'not built' not in said and 'have changed' not in said
 
 
 def has_native_headers():
     """Whether gcc compiles for this machine's 32 bits, to compare with."""
-    made = subprocess.run(['gcc', '-m32', '-E', '-'], input=b'#include <sys/mman.h>\n', capture_output=True)
-    return made.returncode == 0
+    return answer_of('gcc', '-m32', '-E', '-', given=b'#include <sys/mman.h>\n') is not None
 
 
-def outcome_of(words):
+def lacking(step, has_program):
+    """What a step takes that isn't there."""
+    _, words, needs, wants_program = step
+    found = [name for name in [*words[:1], *needs] if not shutil.which(name)]
+    found += ['the program of these sources'] if wants_program and not has_program else []
+    found += ['the C library for -m32'] if CROSS == needs[:len(CROSS)] and not has_native_headers() else []
+    return found
+
+
+def is_other_linter(words):
+    """Whether a command is a linter of another version."""
+    known = LINTERS.get(words[0])
+    return known is not None and known not in (answer_of(words[0], '--version') or '')
+
+
+def outcome(step, has_program, room):
+    """What came of a step, how long it took, and what it said."""
+    started, missing, words = time.monotonic(), lacking(step, has_program), step[1]
+    if missing:
+        return f'left out, for want of {", ".join(missing)}', 0, b''
     try:
-        done = subprocess.run(words, cwd=TOP, stdin=subprocess.DEVNULL, stdout=subprocess.PIPE, stderr=subprocess.STDOUT,
-                              timeout=LIMIT, env={**os.environ, 'PYTHONDONTWRITEBYTECODE': '1'})
-        return done.returncode, done.stdout
-    except subprocess.TimeoutExpired as late:
-        return 1, (late.stdout or b'') + b'it took too long\n'
+        status, told = outcome_of(words, room)
+    except OSError as error:
+        status, told = 1, f'{error}\n'.encode(errors='replace')
+    if status and is_other_linter(words):
+        return f'left out: {words[0]} is of another version than {LINTERS[words[0]]}', time.monotonic() - started, told
+    return 'failed' if status else 'ok', time.monotonic() - started, told
+
+
+def places():
+    """How many steps are done at once."""
+    number = os.environ.get('RT_JOBS', '')
+    return int(number) if number.isdecimal() and int(number) else min(4, len(os.sched_getaffinity(0)))
+
+
+def outcomes(steps, at_once, has_program, room):
+    """What came of each step, which is said as soon as it is known, with the end of what was wrong."""
+    ends = {}
+    with ThreadPoolExecutor(at_once) as pool:
+        begun = {pool.submit(outcome, step, has_program, room): step[0] for step in steps}
+        for done in as_completed(begun):
+            ends[begun[done]], took, told = done.result()
+            say(f'{begun[done]}: {ends[begun[done]]}, {took:.0f} s')
+            if ends[begun[done]] != 'ok':
+                write(told[-3000:])
+    return ends
+
+
+def end_by(number, room):
+    """Ends the steps that run, and this, as a signal asks."""
+    RUNNING_HELD.acquire()
+    for begun, folder in RUNNING.items():
+        end_all(begun, folder)
+    shutil.rmtree(room, ignore_errors=True)
+    os._exit(128 + number)
 
 
 def main():
-    parser_of(__doc__).parse_args()
-    has_program, begun, counts = is_built(), time.monotonic(), {'done': 0, 'failed': 0, 'left out': 0}
-    steps = [(what, words, needs, wants, outcome_of) for what, words, needs, wants in STEPS]
-    steps.append(('models', [], ['diff'], False, lambda _: models_write_what_stands()))
-    steps.sort(key=lambda step: step[0] not in LONG)
-
-    def outcome(step):
-        _, words, needs, wants_program, run = step
-        lacking = [name for name in [*words[:1], *needs] if not shutil.which(name)]
-        lacking += ['the program of these sources'] if wants_program and not has_program else []
-        lacking += ['the C library for -m32'] if CROSS == needs[:len(CROSS)] and not has_native_headers() else []
-        started = time.monotonic()
-        status, told = (0, b'') if lacking else run(words)
-        return lacking, status, told, time.monotonic() - started
-
-    again = []
-    with ThreadPoolExecutor(int(os.environ.get('RT_JOBS') or min(4, len(os.sched_getaffinity(0))))) as pool:
-        for step, (lacking, status, told, took) in zip(steps, pool.map(outcome, steps)):
-            end = f'left out, for want of {", ".join(lacking)}' if lacking else 'failed beside others' if status else 'ok'
-            counts['left out' if lacking else 'done'] += not status
-            again += [step] if status else []
-            note(f'{step[0]}: {end}, {took:.0f} s')
-    # What failed, as for want of time beside others, is done again alone.
-    for step in again:
-        _, status, told, took = outcome(step)
-        counts['failed' if status else 'done'] += 1
-        note(f'{step[0]}, alone: {"FAILED" if status else "ok"}, {took:.0f} s')
-        if status:
-            sys.stderr.write(told.decode('utf-8', 'replace')[-3000:])
-    note(f'{", ".join(f"{count} {name}" for name, count in counts.items())}, in {time.monotonic() - begun:.0f} s')
+    parser = parser_of(__doc__)
+    parser.add_argument('steps', metavar='STEP', nargs='*', help=f'these alone, of {", ".join(step[0] for step in STEPS)}')
+    wanted = parser.parse_args().steps
+    if unknown := set(wanted) - {step[0] for step in STEPS}:
+        parser.error(f'there is no step {sorted(unknown)[0]}')
+    started, has_program = time.monotonic(), is_built()
+    steps = sorted((step for step in STEPS if not wanted or step[0] in wanted), key=lambda step: step[0] not in LONG)
+    with tempfile.TemporaryDirectory(prefix='eel-quick-', ignore_cleanup_errors=True) as room:
+        heed_signals(lambda number, _: end_by(number, room))
+        ends = outcomes(steps, places(), has_program, room)
+        # What failed, as for want of time beside others, is done again alone.
+        if again := [step for step in steps if ends[step[0]] == 'failed']:
+            say(f'{", ".join(step[0] for step in again)}: once more, alone')
+            ends |= outcomes(again, 1, has_program, room)
+    counts = Counter(end.partition(',')[0].partition(':')[0] for end in ends.values())
+    say(f'{counts["ok"]} done, {counts["failed"]} failed, {counts["left out"]} left out, in {time.monotonic() - started:.0f} s')
     return counts['failed'] > 0
 
 

@@ -1,4 +1,5 @@
 """Sessions that crates/program_runs plays: calls of the editor over files in memory, and what must come of each."""
+import functools
 import os
 import struct
 from dataclasses import replace
@@ -703,12 +704,13 @@ def demo():
     yield eel('demo 1 1', 74, b'demo ', DEVICE_FAULT)
 
 
-SESSIONS = {'edits': list(edits()), 'scripts': list(scripts()), 'words': list(words()), 'restores': list(restores()),
-    'refusals': list(refusals()), 'profiles': list(profiles()), 'uncounted': list(uncounted()), 'narrow': list(narrow()),
-    'visited': list(visited()), 'unvisited': list(unvisited()), 'traced': list(traced()), 'demo': list(demo()),
-    'listed': list(listed()), 'weighed': list(weighed()),
-    'faulty': list(tables.faulty()), 'noted': list(tables.noted()), 'dumped': list(tables.dumped()),
-    'devices': list(tables.devices()), 'reports': list(tables.reports()), 'long': list(tables.long())}
+@functools.cache
+def sessions():
+    """The sessions by their names: each is a list of lines, with what must come of it."""
+    own = [edits, scripts, words, restores, refusals, profiles, uncounted, narrow, visited, unvisited, traced, demo, listed,
+           weighed]
+    others = [tables.faulty, tables.noted, tables.dumped, tables.devices, tables.reports, tables.long]
+    return {session.__name__: list(session()) for session in [*own, *others]}
 
 
 def files():
@@ -747,10 +749,10 @@ def files():
     yield 'carry_loop.ring', words_of([6, 2, 3, 2, 2])
     yield 'three_words.ring', words_of([0] * 5)
     yield from {**DUMPS, **NARROW_DUMPS, **RING_DUMPS}.items()
-    for name, lines in SESSIONS.items():
+    for name, lines in sessions().items():
         yield name, ''.join(f'{line}\n' for line, _ in lines).encode()
 
 
 def printed():
     """What is printed of each script."""
-    return {name: f'{name}:\n'.encode() + b''.join(text for _, text in lines) for name, lines in SESSIONS.items()}
+    return {name: f'{name}:\n'.encode() + b''.join(text for _, text in lines) for name, lines in sessions().items()}

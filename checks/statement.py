@@ -20,13 +20,13 @@ With --write the figures, and the names that are meant of a file, are put into S
 taken out, and one that is missing is put at its section's end, where it wants a word on what to look for. --names SECTION
 prints the names that a section adds, file by file.
 """
-import argparse
 import os
 import re
 import sys
 from collections import defaultdict
 
-TOP = os.path.dirname(os.path.dirname(os.path.abspath(__file__)))
+from called import TOP, parser_of
+
 STATEMENT = 'docs/STATEMENT.md'
 
 # The sections, in order, with what each states: definitions of specs as `crate Name`, functions of src as `crate::name`,
@@ -540,7 +540,7 @@ class Document:
 
 
 def main():
-    parser = argparse.ArgumentParser(description=__doc__, formatter_class=argparse.RawDescriptionHelpFormatter)
+    parser = parser_of(__doc__)
     parser.add_argument('folder', metavar='FOLDER', nargs='?', default=TOP, help='of the repository (this one)')
     parser.add_argument('--write', action='store_true', help='put the figures into STATEMENT.md')
     parser.add_argument('--names', metavar='SECTION', choices=SECTIONS, help=f'print its names: {", ".join(SECTIONS)}')

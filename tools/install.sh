@@ -31,8 +31,8 @@ describe() {
     read_note || { commit=unknown sum=unknown && way=; }
     time=0
     if [ -e "$here/.git" ]; then
-        time=$(git -C "$here" show -s --format=%ct HEAD)
-        [ -z "$(git -C "$here" status --porcelain)" ] || way=changed
+        time=$(git -C "$here" show -s --format=%ct HEAD 2>/dev/null) || time=0
+        [ -z "$(git -C "$here" status --porcelain 2>/dev/null)" ] || way=changed
     elif [ "$(commit_here)" ]; then
         read -r _ time <"$here/COMMIT"
     fi

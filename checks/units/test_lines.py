@@ -83,6 +83,37 @@ class Compiled(unittest.TestCase):
         self.assertGreater(ended, 20)
 
 
+class Built(unittest.TestCase):
+    """A program that stands here with its debug information, so that no compiler is needed: lines.c has its source."""
+    # Where each line's words begin, up to the end, by `objdump -dl`.
+    BY_OBJDUMP = [(0x10084, 17), (0x10094, 16), (0x10098, 9), (0x100a4, 8), (0x100a8, 10), (0x100ac, 9), (0x100bc, 17), (0x100d4, 8),
+                  (0x100dc, 20), (0x100e4, 23), (0x100e8, 25), (0x100f4, 26), (0x100fc, None)]
+    # The line of each function, where it begins by nm, and its copies by llvm-symbolizer: begin, words, and the call's line.
+    FUNCTIONS = {'main': (22, [0x100e4], []), 'all_bits': (14, [0x10084], []), 'bits_of': (6, [], [(0x10098, 9, 18)])}
+    # How often lines were reached, by hand: 5 has three bits up to its last one, and 2 has two.
+    BY_HAND = {6: 2, 8: 2, 9: 7, 10: 5, 11: 2, 15: 1, 16: 1, 17: 3, 18: 2, 23: 1, 25: 1, 26: 1}
+
+    def setUp(self):
+        self.own = Shown(os.path.join(given.CHECKS, 'units', 'lines'))
+        self.debug = DebugLines(self.own)
+
+    def test_each_word_has_its_line(self):
+        wanted = {address: Line('/build/lines.c', number) for (begin, number), (end, _) in
+                  zip(self.BY_OBJDUMP, self.BY_OBJDUMP[1:]) for address in range(begin, end, 4)}
+        self.assertEqual(self.debug.line_at, wanted)
+
+    def test_functions_and_their_copies(self):
+        found = {function.name: (function.line.number, function.starts,
+                                 [(copy.entry, len(copy.words), copy.called.number) for copy in function.copies])
+                 for function in self.debug.functions.values()}
+        self.assertEqual(found, self.FUNCTIONS)
+
+    def test_lines_were_reached(self):
+        run, _ = given.run_in(self.own)
+        lines = LineCounts(self.own, run, self.debug).lines
+        self.assertEqual({line.number: count for line, count in lines.items() if line.number in self.BY_HAND}, self.BY_HAND)
+
+
 class Tables(unittest.TestCase):
     def test_functions_of_a_large_table_are_read_soon(self):
         names = [(f'a_function_of_number_{number}', 0x10054) for number in range(20000)]
