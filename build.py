@@ -102,7 +102,10 @@ def run(words, folder, log):
 
 
 def end(number, _):
-    """Ends all that runs, and this, as a signal asks."""
+    """Ends all that runs, and this, as a signal asks. A second one, as where a group and its leader each get one, changes
+    nothing."""
+    for other in SIGNALS:
+        signal.signal(other, signal.SIG_IGN)
     RUNNING_HELD.acquire()
     for begun in RUNNING:
         os.killpg(begun.pid, signal.SIGKILL)
