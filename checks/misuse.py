@@ -14,6 +14,7 @@ from concurrent.futures import ThreadPoolExecutor
 from itertools import chain
 
 from called import EEL, TOP, built, heed_signals, parser_of
+from options import commands
 from programs import Program
 
 WORDS, CONTENTS, MISSING, DEVICE = 64, 65, 66, 74
@@ -104,6 +105,13 @@ def told(folder):
     yield f'{tools}/profile.py --output /dev/full {DATA}/queens </dev/null', DEVICE, '/dev/full can\'t be written'
     yield f'{tools}/profile.py {DATA}/jump_to_zero </dev/null', 3, 'it jumped there from 00010054'
     yield f'cd {folder} && cp {DATA}/queens ./-dash && {tools}/profile.py --annotate -- -dash </dev/null', 0, 'place.constprop.0'
+    for words, status, line in ((f'{DATA}/flushed_windows', 9, 'exit 9'), (f'--edges {DATA}/queens', 0, 'exit 0'), (PROGRAM, 3, 'exit 3'),
+                                (f'{DATA}/jump_to_zero', 3, 'trap 1'), (f'-n 1 {DATA}/queens', 3, 'stopped'),
+                                (sys.executable, CONTENTS, 'file fault'), (f'{folder}/missing', MISSING, 'No such file')):
+        yield f'{tools}/profile.py --exit-status {words} </dev/null', status, line
+    for command, line in ('edit', 'OUT trace K'), ('run', '[-d DUMP]'), ('--install', 'DESTDIR'):
+        yield f'EEL_PROGRAM={folder}/missing {EEL} {command} --help', 0, line
+    yield f'{EEL} what --help', WORDS, 'eel: bad words'
     yield f'{tools}/check.py {sys.executable}', 1, 'another processor' if os.uname().machine == 'x86_64' else 'file fault'
 
 
@@ -160,6 +168,10 @@ def wait_for(begun, runs):
     return None
 
 
+def first_line(*words):
+    return subprocess.run(words, capture_output=True, text=True, check=True).stdout.splitlines()[0]
+
+
 def faults_installed(folder):
     """What is wrong with what `eel --install` puts in place, or takes away again."""
     prefix = os.path.join(folder, 'a prefix')
@@ -167,8 +179,6 @@ def faults_installed(folder):
     for name in sorted(os.listdir(os.path.join(prefix, 'bin'))):
         if fault := fault_of([os.path.join(prefix, 'bin', name), '--help'], False):
             yield f'{name}: {fault}'
-        if not os.path.isfile(os.path.join(prefix, 'share', 'bash-completion', 'completions', name)):
-            yield f'{name}: no completions'
     subprocess.run([EEL, '--uninstall', prefix], capture_output=True, check=True)
     if os.path.exists(prefix):
         yield f'eel --uninstall leaves {os.listdir(prefix)}'
@@ -197,6 +207,7 @@ def main():
     built(EEL)
     with tempfile.TemporaryDirectory() as folder:
         calls = [([path, '--help'], False) for path in scripts()]
+        calls += [([f'{TOP}/{file}', '--version'], 0, first_line(EEL, '--version')) for file in commands().values()]
         calls += wrong_calls(folder)
         calls += [(['bash', '-c', command], *wanted) for command, *wanted in told(folder)]
         in_turn = [(['bash', '-c', command], status) for command, status in streams(folder)]  # of which the first makes a file

@@ -5,6 +5,7 @@ Each step is another program, or another script of checks/; one that this machin
 steps that call `eel` take the program that stands in crates/eel_main/out, as `./eel`, build.py or .ci/run left it. All is
 said on the error stream, so that the last line of a gate before it stays the last one. The status is 1 where a step fails.
 """
+import glob
 import os
 import shutil
 import subprocess
@@ -19,6 +20,7 @@ LIMIT = 900  # seconds of a step: a busy machine may take many times as long as 
 SHELL = ['eel', 'tools/terminal.sh', 'tools/install.sh', '.ci/run', 'examples/c/build.sh', 'examples/real/build.sh']
 # Words are split on purpose, and variables are set to nothing.
 KNOWN = 'SC1007,SC1091,SC2013,SC2015,SC2016,SC2034,SC2046,SC2086,SC2115,SC2148,SC2154,SC2207,SC2317'
+PAGES = sorted(glob.glob(os.path.join(TOP, 'tools', 'pages', '*.1')))
 PYTHON = sys.executable
 LONG = 'kits', 'wrong calls', 'models', 'traps'  # are begun first
 CROSS = ['sparc64-linux-gnu-gcc', 'clang', 'gcc', 'gcov', 'valgrind']
@@ -32,7 +34,9 @@ def script(name, *words):
 STEPS = [('shell scripts', ['shellcheck', '-s', 'sh', '-e', KNOWN, *SHELL], [], False),
          ('completions', ['shellcheck', '-s', 'bash', '-e', KNOWN, 'tools/eel.bash'], [], False),
          ('Python scripts', ['pyflakes3', 'build.py', 'tools', 'checks'], [], False),
-         ('the manual page', ['groff', '-man', '-Tutf8', '-ww', '-z', 'tools/eel.1'], [], False),
+         ('manual pages', ['groff', '-man', '-Tutf8', '-ww', '-z', *PAGES], [], False),
+         ('options in documents', script('options.py', 'documents'), [], False),
+         *((f'options in {shell}', script('options.py', shell), [shell], False) for shell in ('bash', 'zsh', 'fish')),
          ('units', [PYTHON, '-m', 'unittest', 'discover', '-s', 'checks/units'], [], False),
          ('kits', script('kits.py'), ['git'], False),
          ('the build', script('build_tests.py'), [], False),
