@@ -105,13 +105,15 @@ def told(folder):
     yield f'{tools}/profile.py --output /dev/full {DATA}/queens </dev/null', DEVICE, '/dev/full can\'t be written'
     yield f'{tools}/profile.py {DATA}/jump_to_zero </dev/null', 3, 'it jumped there from 00010054'
     yield f'cd {folder} && cp {DATA}/queens ./-dash && {tools}/profile.py --annotate -- -dash </dev/null', 0, 'place.constprop.0'
-    for words, status, line in ((f'{DATA}/flushed_windows', 9, 'exit 9'), (f'--edges {DATA}/queens', 0, 'exit 0'), (PROGRAM, 3, 'exit 3'),
+    for words, status, line in ((f'{DATA}/flushed_windows', 9, 'exit 9'), (f'--edges {DATA}/queens', 0, 'exit 0'),
                                 (f'{DATA}/jump_to_zero', 3, 'trap 1'), (f'-n 1 {DATA}/queens', 3, 'stopped'),
                                 (sys.executable, CONTENTS, 'file fault'), (f'{folder}/missing', MISSING, 'No such file')):
         yield f'{tools}/profile.py --exit-status {words} </dev/null', status, line
     for command, line in ('edit', 'OUT trace K'), ('run', '[-d DUMP]'), ('--install', 'DESTDIR'):
         yield f'EEL_PROGRAM={folder}/missing {EEL} {command} --help', 0, line
     yield f'{EEL} what --help', WORDS, 'eel: bad words'
+    plus = f'cp {DATA}/queens {folder}/plus && printf "\\0\\22" | dd of={folder}/plus bs=1 seek=18 conv=notrunc 2>&1'
+    yield f'{plus} && {tools}/profile.py {folder}/plus {never}', CONTENTS, 'V8+ is another; compile and link all of it'
     yield f'{tools}/check.py {sys.executable}', 1, 'another processor' if os.uname().machine == 'x86_64' else 'file fault'
 
 

@@ -1,12 +1,14 @@
 #!/usr/bin/env python3
 """Holds what names options to what --help names: checks/options.py [WHERE..]
 
-WHERE is documents, bash, zsh or fish; without it, all of them. The manual pages of the installed scripts, tools/pages but for
-eel.1, and the options in docs/REFERENCE.md must be those that are made of each script's --help: --write makes them anew.
-The completions for bash, zsh and fish must offer the options of each script's --help, and of `eel` the commands of its own,
-with what may stand behind `edit` and `run`. Prints a line for each fault.
+WHERE is documents, bash, zsh or fish; without it, all of them. The manual pages of the installed scripts, in tools/pages, and
+the options in docs/REFERENCE.md must be those that are made of each script's --help: --write makes them anew. eel.1, which is
+made by hand, must have each option of `eel`. Options behind a script's name in any document, or in what another script's
+--help says, must be its own. The completions for bash, zsh and fish must offer the options of each script's --help, and of
+`eel` the commands of its own, with what may stand behind `edit` and `run`. Prints a line for each fault.
 """
 import functools
+import glob
 import os
 import re
 import subprocess
@@ -22,8 +24,8 @@ WIDTH = 119  # columns of lines that are written
 OF_EACH = {'-h', '--help', '--version'}
 NAME = re.compile(r'(?<![\w-])--?[a-z][\w-]*')
 LISTED = re.compile(r'(<!-- options -->\n)((?:[- ] .*\n)*)')
-STATUSES = 'It is 64 where the words don\'t fit, 65 where a file is refused for its contents, 66 where one is missing or too ' \
-           'long, 70 where there is no memory, 74 where a device fails, and 78 where `eel` isn\'t built.'
+STATUSES = 'It is 64 where the words don\'t fit, 65 where a file is refused for its contents, 66 where one is missing or ' \
+           'too long, 70 where there is no memory, 74 where a device fails, and 78 where `eel` isn\'t built.'
 
 
 @dataclass
@@ -65,6 +67,12 @@ def commands():
     """The installed scripts, each with its file, as install.sh has them."""
     listed = re.search(r"^commands='([^']*)'", read_file(os.path.join(TOP, 'tools', 'install.sh')).decode(), re.M)[1]
     return {name: file for name, file in (word.split(':') for word in listed.split()) if name != 'eel'}
+
+
+def lines_of_eel():
+    """The commands of `eel`, as its --help has them."""
+    told = subprocess.run([EEL, '--help'], capture_output=True, text=True, check=True).stdout
+    return re.findall(r'^    eel (.*)', told, re.M)
 
 
 @functools.cache
@@ -150,12 +158,35 @@ class Page:
 def listed():
     """The options of each script, as lines of the reference."""
     for command, file in commands().items():
-        told = [', '.join(f'`{name}{f" {row.value}" if row.value else ""}`' for name in row.names)
+        told = [' or '.join(f'`{name}{f" {row.value}" if row.value else ""}`' for name in row.names)
                 for row in help_of(command).options if not OF_EACH & set(row.names)]
         text = f'`{os.path.basename(file)}`: {", ".join(told) or "none"}'
         joined = re.sub('`[^`]*`', lambda found: found[0].replace(' ', '\0'), text)
         lines = textwrap.wrap(joined, WIDTH, initial_indent='- ', subsequent_indent='  ', break_on_hyphens=False)
         yield from (line.replace('\0', ' ') for line in lines)
+
+
+def misnamed(text):
+    """Calls of scripts in a text with options that these don't have."""
+    files = {os.path.basename(file): name for name, file in commands().items()}
+    for script, rest in re.findall(r'\b([a-z_]+\.py|eel-[a-z]+)\b([^|;<>`\n]*)', text):
+        command = files.get(script, script)
+        for option in NAME.findall(rest.partition(' -- ')[0]) if command in commands() else ():
+            if option not in help_of(command).names():
+                yield f'{script} {option}'
+
+
+def of_names():
+    """Options in documents, and in what scripts say of others, that no script has."""
+    for name in glob.glob(os.path.join(TOP, '**', '*.md'), recursive=True):
+        yield from (f'{os.path.relpath(name, TOP)}: {call}: no such option' for call in misnamed(read_file(name).decode()))
+    for command in commands():
+        told = help_of(command)
+        text = '\n'.join([*told.paragraphs, *(row.text for row in told.arguments + told.options)])
+        yield from (f'{command} --help: {call}: no such option' for call in misnamed(text))
+    page = read_file(os.path.join(PAGES, 'eel.1')).decode().replace('\\-', '-')
+    yield from (f'tools/pages/eel.1: {name}: left out' for name in sorted({line.split()[0] for line in lines_of_eel()})
+                if name not in page)
 
 
 def of_documents(writes):
@@ -195,16 +226,17 @@ CALL = {'bash': ['bash', '-c'], 'zsh': ['zsh', '-f', '-c'], 'fish': ['fish', '--
 
 
 def offered(shell, folder, *words):
-    """What a shell offers for the last of these words, in an empty folder; the commands are in the path."""
-    done = subprocess.run([*CALL[shell], ASK[shell], os.path.join(TOP, 'tools', f'eel.{shell}'), *words], capture_output=True,
-                          text=True, cwd=f'{folder}/empty',
-                          env={**os.environ, 'PATH': f'{folder}:{os.environ["PATH"]}', 'HOME': f'{folder}/home'})
-    return {*done.stdout.splitlines(), *(done.stderr.splitlines() if done.stderr else [])} - {''}
+    """What a shell offers for the last of these words, in an empty folder, or what it complains of; the commands are in the
+    path."""
+    given = {**os.environ, 'PATH': f'{folder}:{os.environ["PATH"]}', 'HOME': f'{folder}/home'}
+    done = subprocess.run([*CALL[shell], ASK[shell], os.path.join(TOP, 'tools', f'eel.{shell}'), *words], text=True, env=given,
+                          cwd=f'{folder}/empty', stdin=subprocess.DEVNULL, stdout=subprocess.PIPE, stderr=subprocess.STDOUT)
+    return set(filter(None, done.stdout.splitlines()))
 
 
 def wanted_of_eel():
     """What must be offered behind some words of `eel`, by its --help."""
-    lines = re.findall(r'^    eel (.*)', subprocess.run([EEL, '--help'], capture_output=True, text=True, check=True).stdout, re.M)
+    lines = lines_of_eel()
     verbs = {line.split()[0] for line in lines}
     yield ['eel'], verbs
     for verb in sorted(verb for verb in verbs if verb[0] != '-'):
@@ -236,7 +268,7 @@ def main():
     for where in words.where or ['documents', *CALL]:
         if where not in ('documents', *CALL):
             parser.error(f'{where} is none of documents, bash, zsh and fish')
-        faults += of_documents(words.write) if where == 'documents' else of_shell(where)
+        faults += [*of_documents(words.write), *of_names()] if where == 'documents' else of_shell(where)
     print('\n'.join([*faults, f'{len(commands())} scripts, {len(faults)} faults']))
     return len(faults) > 0
 

@@ -34,7 +34,7 @@ _eel_script() {
 }
 
 _eel_options() {
-    COLUMNS=9999 "$1" --help 2>/dev/null | sed -n '/^  -/{s/\([^ ]\)  .*/\1/;p;}' | grep -oE -- ' --?[a-z][a-z-]*'
+    COLUMNS=9999 "$1" --help 2>/dev/null | sed -n '/^  -/{s/\([^ ]\)  .*/\1/;p;}' | grep -oE -- ' --?[a-z][a-z0-9-]*'
 }
 complete -F _eel eel
 complete -F _eel_script eel-profile eel-check eel-annotate eel-lines eel-graph eel-merge eel-compare eel-edges eel-patch

@@ -17,7 +17,7 @@ function __eel_options
     set -l help (env COLUMNS=9999 (commandline -opc)[1] --help 2>/dev/null | string collect)
     for line in (string replace -ra '\n {10,}' '  ' -- $help | string split \n | string match -r '^  -.*')
         set -l parts (string match -r '^  (.*?[^ ])  +(.*)' -- $line)
-        for name in (string match -ra -- '(?<= )--?[a-z][a-z-]*' " $parts[2]")
+        for name in (string match -ra -- '(?<= )--?[a-z][a-z0-9-]*' " $parts[2]")
             printf '%s\t%s\n' $name $parts[3]
         end
     end

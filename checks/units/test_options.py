@@ -1,9 +1,11 @@
-"""What --help says of options, and the pages that are made of it."""
+"""What --help says of options, the pages that are made of it, and the status by --exit-status."""
 import os
 import unittest
 
 from given import TOP
-from options import Help, Page, commands
+from endings import Ending
+from options import Help, Page, commands, misnamed
+from profile import status_by
 
 TEXT = '''usage: merge.py [-h] [--version] [-n STEPS] [--to {file,pipe} | --all] FILE [COUNTS ...]
 
@@ -48,6 +50,10 @@ class Texts(unittest.TestCase):
                              [('FILE', 'the program'), ('COUNTS', 'what `eel counts` printed')])
             self.assertEqual(told.names(), {'-h', '--help', '-n', '--limit', '--to', '--all', '--top'})
 
+    def test_misnamed(self):
+        text = '`tools/patch.py --all`, of eel-merge --version -n | x --to, ./profile.py --edges f -- --more and walk.py --short'
+        self.assertEqual(list(misnamed(text)), ['patch.py --all', 'eel-merge -n'])
+
     def test_paragraphs(self):
         told = Help(TEXT)
         self.assertEqual(told.call, 'FILE [COUNTS ...]')
@@ -66,6 +72,18 @@ class Texts(unittest.TestCase):
         self.assertIn('\\fBeel\\-merge FILE COUNTS | sort > SUM\\fR', page)
         self.assertEqual(page[-1], '\\fBeel\\fR(1), \\fBeel\\-profile\\fR(1)')
         self.assertIn('The status is 0 where all went well.', page)
+
+
+class Statuses(unittest.TestCase):
+    def test_exits(self):
+        for number in 0, 1, 3, 65, 255:
+            self.assertEqual(status_by(Ending('exit', number, 0x10054, 9), False), 0)
+            self.assertEqual(status_by(Ending('exit', number, 0x10054, 9), True), number)
+
+    def test_others(self):
+        for kind in 'trap', 'window', 'couple', 'stopped':
+            for is_own in False, True:
+                self.assertEqual(status_by(Ending(kind, 0, 0x10054, 9), is_own), 3)
 
 
 if __name__ == '__main__':
