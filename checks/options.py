@@ -37,27 +37,31 @@ class Row:
 
 
 class Help:
-    """What --help of a script says, printed to lines of any length."""
+    """What --help of a script says, printed to lines of any length: its options in groups, each with a heading."""
 
     def __init__(self, text):
         usage, *parts = re.sub(r'\n {10,}', '  ', text.rstrip('\n')).split('\n\n')
         self.call = ' '.join(re.sub(r'\[-[^]]*\]', '', usage).split()[2:])
-        self.paragraphs, self.arguments, self.options = [], [], []
+        self.paragraphs, self.arguments, self.groups = [], [], {}
         for part in parts:
-            if re.match(r'[a-z ]+:\n  \S', part):
-                rows = [row_of(line) for line in part.split('\n')[1:]]
-                self.options += [row for row in rows if row.names]
-                self.arguments += [row for row in rows if not row.names]
-            else:
+            first, *lines = part.split('\n')
+            if not (first.endswith(':') and lines and all(re.match('  +[^ ]', line) for line in lines)):
                 self.paragraphs.append(' '.join(part.split()))
+            elif first == 'positional arguments:':
+                self.arguments = [row_of(line) for line in lines]
+            else:
+                self.groups[first] = [row_of(line) for line in lines]
+
+    def options(self):
+        return [row for rows in self.groups.values() for row in rows]
 
     def names(self):
-        return {name for row in self.options for name in row.names}
+        return {name for row in self.options() for name in row.names}
 
 
 def row_of(line):
     """A line of arguments or options: names, each with what stands behind it or the last one alone, and a text."""
-    head, text = re.fullmatch(r'  (.*?\S)(?:  +(.*))?', line).groups()
+    head, text = re.fullmatch(r' +(.*?\S)(?:  +(.*))?', line).groups()
     names = NAME.findall(head)
     return Row(names, head[head.rindex(names[-1]) + len(names[-1]):].strip() if names else head, text or '')
 
@@ -95,7 +99,7 @@ class Page:
     def __init__(self, command, text, installed):
         self.command, self.help = command, text
         self.installed = {os.path.basename(file): name for name, file in installed.items()}
-        values = ' '.join([row.value for row in text.arguments + text.options])
+        values = ' '.join([row.value for row in text.arguments + text.options()])
         words = sorted(set(re.findall(r'[A-Z]+', values)), key=len, reverse=True) or ['FILE']
         self.marked = re.compile(rf'`([^`]+)`|((?:tools/)?\b\w+\.py\b)|({NAME.pattern})|\b({"|".join(words)})\b')
 
@@ -124,8 +128,7 @@ class Page:
         for mark, part in zip([heading, *['.PP'] * len(parts)], parts):
             yield from [mark, *self.text(part)]
 
-    def rows(self, heading, rows):
-        yield heading
+    def rows(self, rows):
         for row in rows:
             yield '.TP'
             yield f'{", ".join(map(bold, row.names))} {self.line(row.value)}'.strip()
@@ -141,8 +144,11 @@ class Page:
         stated = [part for part in self.help.paragraphs if part.startswith('The status is')]
         parts = [part for part in self.help.paragraphs[1:] if part not in stated]
         yield from self.paragraphs('.SH DESCRIPTION', parts or self.help.paragraphs[:1])
-        yield from self.rows('.SH ARGUMENTS', self.help.arguments)
-        yield from self.rows('.SH OPTIONS', self.help.options)
+        yield from ['.SH ARGUMENTS', *self.rows(self.help.arguments)]
+        yield '.SH OPTIONS'
+        for heading, rows in self.help.groups.items():
+            yield from [] if heading == 'options:' else ['.PP', *self.text(heading[0].upper() + heading[1:])]
+            yield from self.rows(rows)
         yield from self.paragraphs('.SH EXIT STATUS', [*(stated or ['The status is 0 where it is done.']), STATUSES])
         if call:
             yield from ['.SH EXAMPLE', bold(self.renamed(call))]
@@ -159,7 +165,7 @@ def listed():
     """The options of each script, as lines of the reference."""
     for command, file in commands().items():
         told = [' or '.join(f'`{name}{f" {row.value}" if row.value else ""}`' for name in row.names)
-                for row in help_of(command).options if not OF_EACH & set(row.names)]
+                for row in help_of(command).options() if not OF_EACH & set(row.names)]
         text = f'`{os.path.basename(file)}`: {", ".join(told) or "none"}'
         joined = re.sub('`[^`]*`', lambda found: found[0].replace(' ', '\0'), text)
         lines = textwrap.wrap(joined, WIDTH, initial_indent='- ', subsequent_indent='  ', break_on_hyphens=False)
@@ -182,7 +188,7 @@ def of_names():
         yield from (f'{os.path.relpath(name, TOP)}: {call}: no such option' for call in misnamed(read_file(name).decode()))
     for command in commands():
         told = help_of(command)
-        text = '\n'.join([*told.paragraphs, *(row.text for row in told.arguments + told.options)])
+        text = '\n'.join([*told.paragraphs, *(row.text for row in told.arguments + told.options())])
         yield from (f'{command} --help: {call}: no such option' for call in misnamed(text))
     page = read_file(os.path.join(PAGES, 'eel.1')).decode().replace('\\-', '-')
     yield from (f'tools/pages/eel.1: {name}: left out' for name in sorted({line.split()[0] for line in lines_of_eel()})

@@ -27,7 +27,7 @@ options:
   --to {file,pipe}
   --all                 all of it, with -n
 
-more:
+which are printed, by `more`; the others aren't:
   --top N               so many
 '''
 OF_LATER_PYTHON = TEXT.replace('-n STEPS, --limit STEPS', '-n, --limit STEPS')
@@ -43,7 +43,7 @@ class Texts(unittest.TestCase):
     def test_rows(self):
         for text in TEXT, OF_LATER_PYTHON:
             told = Help(text)
-            self.assertEqual([(row.names, row.value, row.text) for row in told.options], [
+            self.assertEqual([(row.names, row.value, row.text) for row in told.options()], [
                 (['-h', '--help'], '', 'show this help message and exit'), (['-n', '--limit'], 'STEPS', 'at most, else 5  in all'),
                 (['--to'], '{file,pipe}', ''), (['--all'], '', 'all of it, with -n'), (['--top'], 'N', 'so many')])
             self.assertEqual([(row.value, row.text) for row in told.arguments],
@@ -72,6 +72,7 @@ class Texts(unittest.TestCase):
         self.assertIn('\\fBeel\\-merge FILE COUNTS | sort > SUM\\fR', page)
         self.assertEqual(page[-1], '\\fBeel\\fR(1), \\fBeel\\-profile\\fR(1)')
         self.assertIn('The status is 0 where all went well.', page)
+        self.assertEqual(page[page.index('\\fB\\-\\-top\\fR \\fIN\\fR') - 2], 'Which are printed, by \\fBmore\\fR; the others aren\'t:')
 
 
 class Statuses(unittest.TestCase):
