@@ -385,6 +385,13 @@ def temporary_folder():
         refuse(f'there is no folder for temporary files, which TMPDIR names: {why(error)}', DEVICE)
 
 
+def status_by(ending, is_own):
+    """The status of the script: with --exit-status that of a program that exited."""
+    if ending.kind != 'exit':
+        return TRAPPED
+    return ending.number if is_own else 0
+
+
 def main():
     words = parsed()
     read_file(words.file)
@@ -416,13 +423,6 @@ def main():
                 lines = list(told.all(None if words.all else FUNCTIONS))
             report(words, told, ending, places, lines)
     return status_by(ending, words.exit_status)
-
-
-def status_by(ending, is_own):
-    """The status of the script: with --exit-status that of a program that exited."""
-    if ending.kind != 'exit':
-        return TRAPPED
-    return ending.number if is_own else 0
 
 
 def keep(kept, counts):
