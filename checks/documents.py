@@ -31,7 +31,7 @@ readelf rt sed sh sparc strip true valgrind x Fn __muldf3 __udivdi3'''.split())
 # Paths of every machine, and those that a document tells its reader to make.
 EVERYWHERE = re.compile(r'/(?:dev/(?:null|full|stdout)|tmp(?:/(?:walk|real)\b.*)?|usr/bin/(?:time|env))')
 
-SUFFIXES = {('.', suffix) for suffix in 'py sh md antt rt c h S svg png txt edit patch dot bash'.split()}
+SUFFIXES = {('.', suffix) for suffix in 'py sh md antt rt c h S svg png txt edit patch dot bash zsh fish'.split()}
 PATH = re.compile(r'[\w.+-]+(?:/[\w.+-]+)*/?')
 NAME = re.compile(r"[A-Za-z_][A-Za-z0-9_']*")
 COMMENTS = {'.rt': '//', '.antt': '--', '.py': '#', '.sh': '#', '.c': '//', '.h': '//', '.S': '!', '.txt': '#',
@@ -243,8 +243,8 @@ def command_faults():
     unsaid = [line for line in helped if not any(line.startswith(f'{usage} ') for usage in wanted)]
     unhelped = [usage for usage in wanted if not any(line.startswith(f'{usage} ') for line in helped)]
     yield from (f'eel --help: {usage}: in one of it and {REFERENCE} alone' for usage in sorted(unsaid + unhelped))
-    manual = set(usages_in_manual(read('tools/eel.1')))
-    yield from (f'tools/eel.1: {usage}: in one of it and {REFERENCE} alone' for usage in sorted(manual ^ wanted))
+    manual = set(usages_in_manual(read('tools/pages/eel.1')))
+    yield from (f'tools/pages/eel.1: {usage}: in one of it and {REFERENCE} alone' for usage in sorted(manual ^ wanted))
     words = set(re.findall(r'[a-z]+', ' '.join(re.sub(r'[A-Z]+', '', usage) for usage in wanted))) - {'n', 'd'}
     parsed = set(re.findall(r'codes "([a-z]+)"', read(PARSER)))
     yield from (f'{PARSER}: {word}: in one of it and {REFERENCE} alone' for word in sorted(words ^ parsed))
@@ -263,10 +263,10 @@ def outcome_faults():
         if len(words) > 1 and words not in reference:
             yield f'{REFERENCE}: `{words}`, which a line of an outcome says, is left out'
     stated = {row[0] for row in cells(section(reference, 'Statuses'))}
-    manual = set(re.findall(r'^ ?(\d+)  ', read('tools/eel.1').partition('.SH EXIT STATUS')[2], re.M))
+    manual = set(re.findall(r'^ ?(\d+)  ', read('tools/pages/eel.1').partition('.SH EXIT STATUS')[2], re.M))
     own = set(re.findall(r'^status_of .* = (\d+)$', read(SHOWN), re.M))
     for status in sorted(stated ^ manual | own - stated):
-        yield f'status {status}: in some of {REFERENCE}, tools/eel.1 and {SHOWN} alone'
+        yield f'status {status}: in some of {REFERENCE}, tools/pages/eel.1 and {SHOWN} alone'
     numbers = set(re.findall(r'\d+', ' '.join(row[0] for row in cells(section(reference, 'Traps')))))
     for name, number in re.findall(r'^([a-z]\w+) = (0x\w+)$', read(TRAPS), re.M):
         if str(int(number, 16)) not in numbers:

@@ -442,6 +442,8 @@ def words(place):
         yield f'build.py {given}: builds nothing', place.status == 64 and not place.ways and place.told.count('\n') == 1
     place.call('./build.py', '--help')
     yield '--help', place.status == 0 and not place.ways and '--keep' in place.printed and not place.told
+    place.call('./eel', 'run', '--help')
+    yield 'help of a command', place.status == 0 and not place.ways and '[-n LIMIT]' in place.printed and not place.told
     place.call('./build.py', '--sum')
     yield '--sum', place.status == 0 and re.fullmatch('[0-9a-f]{64}\n', place.printed) and not place.ways
     for given in ['what'], ['--what'], []:

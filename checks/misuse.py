@@ -18,6 +18,7 @@ from itertools import chain
 from shlex import quote
 
 from called import EEL, TOP, built, heed_signals, parser_of
+from options import commands
 from programs import Program
 
 WORDS, CONTENTS, MISSING, DEVICE = 64, 65, 66, 74
@@ -108,9 +109,19 @@ def told(folder):
     yield f'{tools}/profile.py --names {folder}/text {program} {never}', CONTENTS, 'no line of nm'
     yield f'{tools}/profile.py --output {folder}/missing/out {program} {never}', DEVICE, 'No such file or directory'
     yield f'{tools}/profile.py', WORDS, 'required: FILE\n'
-    yield f'{tools}/profile.py --output /dev/full {data}/queens </dev/null', DEVICE, '/dev/full can\'t be written'
+    yield (f'ln -s /dev/full {folder}/full && {tools}/profile.py --output {folder}/full {data}/queens </dev/null', DEVICE,
+           '/full can\'t be written')
     yield f'{tools}/profile.py {data}/jump_to_zero </dev/null', 3, 'it jumped there from 00010054'
     yield f'cd {folder} && cp {data}/queens ./-dash && {tools}/profile.py --annotate -- -dash </dev/null', 0, 'place.constprop.0'
+    for words, status, line in ((f'{data}/flushed_windows', 9, 'exit 9'), (f'--edges {data}/queens', 0, 'exit 0'),
+                                (f'{data}/jump_to_zero', 3, 'trap 1'), (f'-n 1 {data}/queens', 3, 'stopped'),
+                                (python, CONTENTS, 'file fault'), (f'{folder}/missing', MISSING, 'No such file')):
+        yield f'{tools}/profile.py --exit-status {words} </dev/null', status, line
+    for command, line in ('edit', 'OUT trace K'), ('run', '[-d DUMP]'), ('--install', 'DESTDIR'):
+        yield f'EEL_PROGRAM={folder}/missing {quote(EEL)} {command} --help', 0, line
+    yield f'{quote(EEL)} what --help', WORDS, 'eel: bad words'
+    plus = f'cp {data}/queens {folder}/plus && printf "\\0\\22" | dd of={folder}/plus bs=1 seek=18 conv=notrunc 2>&1'
+    yield f'{plus} && {tools}/profile.py {folder}/plus {never}', CONTENTS, 'V8+ is another; compile and link all of it'
     yield f'{tools}/check.py {python}', 1, 'another processor' if os.uname().machine == 'x86_64' else 'file fault'
 
 
@@ -177,6 +188,10 @@ def content(name):
         return opened.read()
 
 
+def first_line(*words):
+    return subprocess.run(words, capture_output=True, text=True, check=True).stdout.splitlines()[0]
+
+
 def faults_installed(folder):
     """What is wrong with what `eel --install` puts in place, or takes away again."""
     prefix = os.path.join(folder, 'a prefix')
@@ -184,8 +199,6 @@ def faults_installed(folder):
     for name in sorted(os.listdir(os.path.join(prefix, 'bin'))):
         if fault := fault_of([os.path.join(prefix, 'bin', name), '--help'], False):
             yield f'{name}: {fault}'
-        if not os.path.isfile(os.path.join(prefix, 'share', 'bash-completion', 'completions', name)):
-            yield f'{name}: no completions'
     subprocess.run([EEL, '--uninstall', prefix], capture_output=True, check=True)
     if os.path.exists(prefix):
         yield f'eel --uninstall leaves {os.listdir(prefix)}'
@@ -215,6 +228,7 @@ def main():
     with tempfile.TemporaryDirectory() as folder:
         os.mkfifo(os.path.join(folder, 'never'))
         calls = [([path, '--help'], False) for path in scripts()]
+        calls += [([f'{TOP}/{file}', '--version'], 0, first_line(EEL, '--version')) for file in commands().values()]
         calls += wrong_calls(folder)
         calls += [(['bash', '-c', command], *wanted) for command, *wanted in told(folder)]
         in_turn = [(['bash', '-c', command], status) for command, status in streams(folder)]  # of which the first makes a file

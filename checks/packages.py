@@ -16,6 +16,9 @@ from called import BUILT, EEL, TOP, built, note, parser_of, read_file
 EXAMPLE = os.path.join(TOP, 'examples', 'three_words')
 COMMANDS = ['eel', 'eel-annotate', 'eel-check', 'eel-compare', 'eel-edges', 'eel-graph', 'eel-lines', 'eel-merge', 'eel-patch',
             'eel-profile']
+BESIDE = ['share/zsh/site-functions/_eel', *(f'share/man/man1/{name}.1' for name in COMMANDS),
+          *(f'share/bash-completion/completions/{name}' for name in COMMANDS),
+          *(f'share/fish/vendor_completions.d/{name}.fish' for name in COMMANDS)]
 
 
 def call(*words, cwd=None, umask=-1, **variables):
@@ -78,11 +81,14 @@ def works(place):
     status, told = call(f'{place}/bin/eel-profile', EXAMPLE)
     if status or 'exit 3, 3 instructions' not in told:
         yield f'eel-profile: {told}'
+    version = call(f'{place}/bin/eel', '--version')[1].rstrip('\n')
     for name in COMMANDS:
         status, told = call(f'{place}/bin/{name}', '--help')
         if status or name not in told:
             yield f'{name} --help: status {status}'
-    for name in 'share/man/man1/eel.1', *(f'share/bash-completion/completions/{name}' for name in COMMANDS):
+        if call(f'{place}/bin/{name}', '--version') != (0, f'{"" if name == "eel" else f"{name} of "}{version}\n'):
+            yield f'{name} --version: {call(f"{place}/bin/{name}", "--version")}, where eel says {version}'
+    for name in BESIDE:
         if not os.path.isfile(f'{place}/{name}'):
             yield f'there is no {name}'
 
@@ -127,6 +133,8 @@ def of_a_tarball(folder):
     eel = f'{folder}/sources/eel'
     if head[:12] not in (told := call(eel, '--version')[1]):
         yield f'eel --version of a tarball: {told}'
+    if f'profile.py of {told}' != (of_script := call(f'{folder}/sources/tools/profile.py', '--version')[1]):
+        yield f'profile.py --version of a tarball: {of_script}'
     program = shutil.copy(BUILT, f'{folder}/a program')
     if 'exit 3' not in (told := call(eel, 'run', EXAMPLE, EEL_PROGRAM=program)[1]):
         yield f'EEL_PROGRAM is not run: {told}'

@@ -9,6 +9,7 @@ A step has no terminal and no input, and a folder of its own for temporary files
 caller changes what programs print, or where they write. One that takes too long is ended, with all that it began.
 """
 import contextlib
+import glob
 import os
 import re
 import shutil
@@ -27,6 +28,7 @@ LIMIT = 900  # seconds of a step: a busy machine may take many times as long as 
 SHELL = ['eel', 'tools/terminal.sh', 'tools/install.sh', '.ci/run', 'examples/c/build.sh', 'examples/real/build.sh']
 # Words are split on purpose, and variables are set to nothing.
 KNOWN = 'SC1007,SC1091,SC2013,SC2015,SC2016,SC2034,SC2046,SC2086,SC2115,SC2148,SC2154,SC2207,SC2317'
+PAGES = sorted(glob.glob(os.path.join(TOP, 'tools', 'pages', '*.1')))
 # What finds faults in texts, with the version that finds none here: another one may ask for more.
 LINTERS = {'shellcheck': '0.9.0', 'pyflakes3': '2.5.0', 'groff': '1.22.4'}
 PYTHON = sys.executable or shutil.which('python3')
@@ -45,7 +47,9 @@ def script(name, *words):
 STEPS = [('shell scripts', ['shellcheck', '-s', 'sh', '-e', KNOWN, *SHELL], [], False),
          ('completions', ['shellcheck', '-s', 'bash', '-e', KNOWN, 'tools/eel.bash'], [], False),
          ('Python scripts', ['pyflakes3', 'build.py', 'tools', 'checks'], [], False),
-         ('the manual page', ['groff', '-man', '-Tutf8', '-ww', '-z', 'tools/eel.1'], [], False),
+         ('manual pages', ['groff', '-man', '-Tutf8', '-ww', '-z', *PAGES], [], False),
+         ('options in documents', script('options.py', 'documents'), [], False),
+         *((f'options in {shell}', script('options.py', shell), [shell], False) for shell in ('bash', 'zsh', 'fish')),
          ('units', [PYTHON, '-m', 'unittest', 'discover', '-s', 'checks/units'], [], False),
          ('kits', script('kits.py'), ['git'], False),
          ('the build', script('build_tests.py'), [], False),

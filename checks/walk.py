@@ -3,17 +3,20 @@
 whether all that the documents name is there (documents.py).
 
 Commands are the lines that begin with `$`, and go on where they end with a backslash; what follows is what they print,
-where `...` stands for any lines. The packages aren't installed. The folder /tmp/walk must not be there. With --short the
-part on programs of others is left out, whose build takes minutes.
+where `...` stands for any lines. The packages aren't installed. What is done there in /tmp/walk is done here in a folder of
+its own, which goes at the end; what is printed names /tmp/walk. With --short the part on programs of others is left out,
+whose build takes minutes.
 """
 import os
 import re
 import subprocess
 import sys
+import tempfile
 
-from called import EEL, TOP, built, parser_of, read_file, refuse
+from called import EEL, TOP, built, parser_of, read_file
 
 END = 'end of a step'
+FOLDER = '/tmp/walk'
 OTHERS = '\n## Programs of others'
 
 
@@ -30,19 +33,24 @@ def fits(printed, shown):
     return re.fullmatch(pattern, printed.rstrip('\n')) is not None
 
 
+def printed_by(commands):
+    """What each command prints, where they are done one after the other in one shell, and in a folder of their own."""
+    with tempfile.TemporaryDirectory(prefix='eel-walk-') as room:
+        own = os.path.join(os.path.realpath(room), 'walk')
+        script = ''.join(f'{command}\necho "{END}"\n' for command in commands).replace(FOLDER, own)
+        done = subprocess.run(['bash', '-c', script], cwd=TOP, stdout=subprocess.PIPE, stderr=subprocess.STDOUT, text=True)
+    return done.stdout.replace(own, FOLDER).split(f'{END}\n')
+
+
 def main():
     parser = parser_of(__doc__)
     parser.add_argument('--short', action='store_true', help='without the programs of others')
     words = parser.parse_args()
     built(EEL)
-    if os.path.exists('/tmp/walk'):
-        refuse('/tmp/walk is there already')
     text = read_file(os.path.join(TOP, 'docs', 'TUTORIAL.md')).decode()
     commands = [step for step in steps(text.split(OTHERS)[0] if words.short else text) if not step[0].startswith('apt-get')]
-    script = ''.join(f'{command}\necho "{END}"\n' for command, _ in commands)
-    done = subprocess.run(['bash', '-c', script], cwd=TOP, stdout=subprocess.PIPE, stderr=subprocess.STDOUT, text=True)
     faults = 0
-    for (command, shown), printed in zip(commands, done.stdout.split(f'{END}\n')):
+    for (command, shown), printed in zip(commands, printed_by([command for command, _ in commands])):
         if not fits(printed, shown):
             print(f'{command}\nprinted:\n{printed}where this is shown:\n' + '\n'.join(shown))
             faults += 1

@@ -3,9 +3,10 @@
 
 It names the float, V9 and other instructions that no run gets past, and the system calls, each with the functions where
 they are. What is looked at are the words to which CALLs, branches and switches lead from where the program is entered;
-those to which only jumps through registers may lead are told apart. The status is 0 where nothing stands in the way, 1
-where the file can't be edited or run, and 2 where something may stop its run; else 64 for wrong words, 65 for bad NAMES,
-66 for a file that is missing.
+those to which only jumps through registers may lead are told apart.
+
+The status is 0 where nothing stands in the way, 1 where the file can't be edited or run, and 2 where something may stop
+its run; else 64 for wrong words, 65 for bad NAMES, 66 for a file that is missing.
 """
 from scripting import CONTENTS, Parser, print_lines, read_file, refuse, said_if_long, script
 

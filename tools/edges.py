@@ -53,7 +53,7 @@ def printed(shown, words):
 
 
 def main():
-    parser = Parser(__doc__)
+    parser = Parser(__doc__, '%(prog)s [OPTION..] FILE FUNCTION[+OFFSET]..')
     parser.add_argument('file', metavar='FILE', help='the program')
     parser.add_argument('names_of', metavar='FUNCTION', nargs='+', help='a function, by its name or its address')
     for way in WAYS:

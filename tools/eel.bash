@@ -9,13 +9,12 @@ _eel() {
     4,edit)
         COMPREPLY=($(compgen -W 'plain script profile every trace' -- "$word"))
         return ;;
-    *,run)
-        if [ "${word#-}" != "$word" ]; then
-            COMPREPLY=($(compgen -W '-n -d --' -- "$word"))
-            return
-        fi ;;
     esac
-    _eel_files
+    case $COMP_CWORD,$command,$word in
+    2,*,-*) COMPREPLY=($(compgen -W '--help' -- "$word")) ;;
+    *,run,-*) COMPREPLY=($(compgen -W '-n -d --' -- "$word")) ;;
+    *) _eel_files ;;
+    esac
 }
 
 _eel_files() {
@@ -28,10 +27,14 @@ _eel_files() {
 _eel_script() {
     local word=${COMP_WORDS[COMP_CWORD]}
     if [ "${word#-}" != "$word" ]; then
-        COMPREPLY=($(compgen -W "$("$1" --help 2>/dev/null | grep -o -- '--[a-z][a-z-]*' | sort -u)" -- "$word"))
+        COMPREPLY=($(compgen -W "$(_eel_options "$1")" -- "$word"))
     else
         _eel_files
     fi
+}
+
+_eel_options() {
+    COLUMNS=9999 "$1" --help 2>/dev/null | sed -n '/^  -/{s/\([^ ]\)  .*/\1/;p;}' | grep -oE -- ' --?[a-z][a-z0-9-]*'
 }
 complete -F _eel eel
 complete -F _eel_script eel-profile eel-check eel-annotate eel-lines eel-graph eel-merge eel-compare eel-edges eel-patch

@@ -15,11 +15,15 @@ placed_files() {
     for file in "$here"/tools/*.*; do
         [ "${file%.md}" = "$file" ] || continue
         echo "$([ -x "$file" ] && echo 755 || echo 644) share/eel/tools/${file##*/} $file"
-        case $file in *.1) echo "644 share/man/man1/${file##*/} $file" ;; esac
     done
     for command in $commands; do
-        echo "644 share/bash-completion/completions/${command%:*} $here/tools/eel.bash"
+        command=${command%:*} page=tools/pages/${command%:*}.1
+        echo "644 share/eel/$page $here/$page"
+        echo "644 share/man/man1/$command.1 $here/$page"
+        echo "644 share/bash-completion/completions/$command $here/tools/eel.bash"
+        echo "644 share/fish/vendor_completions.d/$command.fish $here/tools/eel.fish"
     done
+    echo "644 share/zsh/site-functions/_eel $here/tools/eel.zsh"
 }
 
 # Of what all of this was made, for the file PACKAGE.

@@ -55,7 +55,7 @@ def lines_of(kind, sums, first):
 
 
 def main():
-    parser = Parser(__doc__)
+    parser = Parser(__doc__, '%(prog)s COUNTS COUNTS..')
     parser.add_argument('counts', metavar='COUNTS', nargs='+', help='what `eel counts` or `eel visits` printed')
     names = parser.parse_args().counts
     parts = [parts_of(name) for name in names]

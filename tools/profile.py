@@ -7,8 +7,9 @@ and lines that took most; and its instructions by kind. Each instruction is coun
 exact, but for the shares with what is called: those are shared out among callers. What the program puts out goes to the
 error stream. Options stand before FILE; with some another script prints what was counted.
 
-The status is 0 where the program exited, and 3 where it was stopped or trapped. An interrupt ends a run, of which then
-the first steps alone are profiled.
+The status is 0 where the program exited, or its own status with --exit-status; and 3 where it was stopped or trapped.
+Where it can't be run the status is from 64 to 78, as of `eel run`, and the error stream says why. An interrupt ends a
+run, of which then the first steps alone are profiled.
 """
 from scripting import (DEVICE, EEL, MISSING, Parser, note, opened_for_output, print_lines, read_all, read_file, read_lines,
                        refuse, said_if_long, script, wants_built, why)
@@ -355,6 +356,7 @@ def parsed():
                            '`about`')
     kind.add_argument('--weights', action='store_true',
                       help='the same twice, with counters by what the first run counted: still fewer steps')
+    parser.add_argument('--exit-status', action='store_true', help='end with the status of the program, where it exited')
     parser.add_argument('--all', action='store_true', help='print all functions')
     parser.add_argument('--counts', metavar='FILE', help='keep what was counted, as `eel visits` and `counts` print it')
     printer = parser.add_mutually_exclusive_group()
@@ -381,6 +383,13 @@ def temporary_folder():
         return tempfile.TemporaryDirectory(prefix='eel-profile-', ignore_cleanup_errors=True)
     except OSError as error:
         refuse(f'there is no folder for temporary files, which TMPDIR names: {why(error)}', DEVICE)
+
+
+def status_by(ending, is_own):
+    """The status of the script: with --exit-status that of a program that exited."""
+    if ending.kind != 'exit':
+        return TRAPPED
+    return ending.number if is_own else 0
 
 
 def main():
@@ -413,7 +422,7 @@ def main():
                 told = Report(shown, run, debug)
                 lines = list(told.all(None if words.all else FUNCTIONS))
             report(words, told, ending, places, lines)
-    return 0 if ending.kind == 'exit' else TRAPPED
+    return status_by(ending, words.exit_status)
 
 
 def keep(kept, counts):

@@ -11,6 +11,7 @@ import contextlib
 import errno
 import functools
 import signal
+import subprocess
 import threading
 
 TOP = os.path.dirname(os.path.dirname(os.path.realpath(__file__)))
@@ -68,11 +69,21 @@ def script(main):
     sys.exit(main())
 
 
+class VersionAction(argparse.Action):
+    """Prints what `eel --version` says first: the version, the commit and the kit of the program that is called."""
+
+    def __call__(self, parser, *_):
+        told = subprocess.run([EEL, '--version'], stdin=subprocess.DEVNULL, stdout=subprocess.PIPE, text=True).stdout
+        print_lines([f'{parser.prog} of {line}' for line in told.splitlines()[:1]])
+        parser.exit()
+
+
 class Parser(argparse.ArgumentParser):
     """The words of a script, whose help is the script's own text."""
 
     def __init__(self, text, usage=None):
         super().__init__(description=text, formatter_class=argparse.RawDescriptionHelpFormatter, usage=usage)
+        self.add_argument('--version', action=VersionAction, nargs=0, help='print the version and the commit of eel, and exit')
 
     def error(self, message):
         self.print_usage(sys.stderr)
