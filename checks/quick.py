@@ -182,7 +182,8 @@ def outcomes(steps, at_once, has_program, room):
 
 
 def end_by(number, room):
-    """Ends the steps that run, and this, as a signal asks."""
+    """Ends the steps that run, and this, as a signal asks. Another one changes nothing."""
+    heed_signals(signal.SIG_IGN)
     RUNNING_HELD.acquire()
     for begun, folder in RUNNING.items():
         end_all(begun, folder)
