@@ -23,7 +23,7 @@ from concurrent.futures import ThreadPoolExecutor, as_completed
 
 from called import BUILT, EEL, TOP, heed_signals, parser_of
 
-LIMIT = 900  # seconds of a step: a busy machine may take many times as long as an idle one
+LIMIT = 1800  # seconds of a step: a busy machine may take many times as long as an idle one
 SHELL = ['eel', 'tools/terminal.sh', 'tools/install.sh', '.ci/run', 'examples/c/build.sh', 'examples/real/build.sh']
 # Words are split on purpose, and variables are set to nothing.
 KNOWN = 'SC1007,SC1091,SC2013,SC2015,SC2016,SC2034,SC2046,SC2086,SC2115,SC2148,SC2154,SC2207,SC2317'
