@@ -75,10 +75,10 @@ def say(line):
 
 
 def given_to_steps(folder):
-    """The environment of a step whose temporary files go to this folder."""
+    """The environment of a step whose temporary files go to this folder, and which never begins a build."""
     own = {name: value for name, value in os.environ.items() if not FOREIGN.fullmatch(name)}
     path = own.get('PATH') or os.defpath
-    return {**own, 'PATH': path, 'TMPDIR': folder, 'LC_ALL': 'C', 'PYTHONDONTWRITEBYTECODE': '1'}
+    return {**own, 'PATH': path, 'TMPDIR': folder, 'EEL_PROGRAM': BUILT, 'LC_ALL': 'C', 'PYTHONDONTWRITEBYTECODE': '1'}
 
 
 def end_all(begun, folder):
