@@ -64,6 +64,13 @@ STEPS = [('shell scripts', ['shellcheck', '-s', 'sh', '-e', KNOWN, *SHELL], [], 
          ('traps', script('all_tools.py', 'endings'), CROSS[:1], True)]
 
 
+def open_streams():
+    """Opens those of the three streams that are closed: else a file would have the number of one."""
+    while (opened := os.open(os.devnull, os.O_RDWR)) <= 2:
+        pass
+    os.close(opened)
+
+
 def write(content):
     """Writes to the error stream, if there is one."""
     with contextlib.suppress(OSError):
@@ -192,6 +199,7 @@ def main():
     wanted = parser.parse_args().steps
     if unknown := set(wanted) - {step[0] for step in STEPS}:
         parser.error(f'there is no step {sorted(unknown)[0]}')
+    open_streams()
     started, has_program = time.monotonic(), is_built()
     steps = sorted((step for step in STEPS if not wanted or step[0] in wanted), key=lambda step: step[0] not in LONG)
     with tempfile.TemporaryDirectory(prefix='eel-quick-', ignore_cleanup_errors=True) as room:
