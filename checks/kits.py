@@ -155,7 +155,7 @@ class Place:
 
     def ended(self, begun):
         try:
-            self.printed = begun.communicate(timeout=600)[0]
+            self.printed = begun.communicate(timeout=180)[0]
         except subprocess.TimeoutExpired:
             os.killpg(begun.pid, signal.SIGKILL)
             self.printed = 'it took too long'
@@ -201,7 +201,7 @@ class Place:
         self.git('commit', '-qm', 'one')
 
 
-def until(condition, seconds=120):
+def until(condition, seconds=60):
     """What a condition says once it says something, or once these seconds are over."""
     end = time.monotonic() + seconds
     while not (said := condition()) and time.monotonic() < end:

@@ -92,7 +92,10 @@ def main():
     parser = parser_of(__doc__)
     parser.add_argument('crates', metavar='CRATE', nargs='*', help='these alone')
     crates = parser.parse_args().crates
-    read_files = [File(name) for name in files() if re.match(r'crates/\w+/(src|specs|proofs)/', name)]
+    names = [name for name in files() if re.match(r'crates/\w+/(src|specs|proofs)/', name)]
+    if unknown := sorted(set(crates) - {name.split('/')[1] for name in names}):
+        parser.error(f'there is no crate {unknown[0]}')
+    read_files = [File(name) for name in names]
     users = defaultdict(set)
     for file in read_files:
         for name in file.names:

@@ -166,7 +166,7 @@ def wait_for(begun, runs):
     end, tenth = time.monotonic() + SECONDS, os.sysconf('SC_CLK_TCK') // 10
     if not runs:
         os.write(begun.stdin.fileno(), b' ')
-    while time.monotonic() < end:
+    while time.monotonic() < end and begun.poll() is None:
         if ticks_of_run(begun.pid) > tenth if runs else fcntl.ioctl(begun.stdin, termios.FIONREAD, bytes(4)) == bytes(4):
             return True
         time.sleep(0.05)

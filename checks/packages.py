@@ -123,24 +123,30 @@ def by_git(*words):
 
 
 def of_a_tarball(folder):
-    """The sources without git, which know their commit, and run a program that was built elsewhere."""
+    """The sources without git, which know their commit."""
     archive, head = by_git('archive', 'HEAD'), by_git('rev-parse', 'HEAD').decode()
     if not archive:
         note('git tells nothing of this folder: a tarball of the sources is left out')
         return
     os.mkdir(f'{folder}/sources')
     subprocess.run(['tar', '-xC', f'{folder}/sources'], input=archive, check=True)
-    eel = f'{folder}/sources/eel'
-    if head[:12] not in (told := call(eel, '--version')[1]):
+    if head[:12] not in (told := call(f'{folder}/sources/eel', '--version')[1]):
         yield f'eel --version of a tarball: {told}'
     if f'profile.py of {told}' != (of_script := call(f'{folder}/sources/tools/profile.py', '--version')[1]):
         yield f'profile.py --version of a tarball: {of_script}'
-    program = shutil.copy(BUILT, f'{folder}/a program')
-    if 'exit 3' not in (told := call(eel, 'run', EXAMPLE, EEL_PROGRAM=program)[1]):
+
+
+def of_sources_alone(folder):
+    """The launcher and the scripts beside nothing that was built run a program that was built elsewhere."""
+    sources, program = f'{folder}/sources alone', shutil.copy(BUILT, f'{folder}/a program')
+    for name in 'crates', 'tools':
+        shutil.copytree(os.path.join(TOP, name), f'{sources}/{name}', ignore=shutil.ignore_patterns('out', 'src', 'data'))
+    shutil.copy(EEL, sources)
+    if 'exit 3' not in (told := call(f'{sources}/eel', 'run', EXAMPLE, EEL_PROGRAM=program)[1]):
         yield f'EEL_PROGRAM is not run: {told}'
-    if 'exit 3, 3 instr' not in (told := call(f'{folder}/sources/tools/profile.py', EXAMPLE, EEL_PROGRAM=program)[1]):
+    if 'exit 3, 3 instr' not in (told := call(f'{sources}/tools/profile.py', EXAMPLE, EEL_PROGRAM=program)[1]):
         yield f'profile.py does not run EEL_PROGRAM: {told}'
-    if call(eel, 'run', EXAMPLE, EEL_PROGRAM=f'{folder}/none')[0] != 78:
+    if call(f'{sources}/eel', 'run', EXAMPLE, EEL_PROGRAM=f'{folder}/none')[0] != 78:
         yield 'EEL_PROGRAM may be missing'
 
 
@@ -164,7 +170,8 @@ def main():
     with tempfile.TemporaryDirectory() as folder:
         faults += packed(folder)
         if os.path.exists(f'{folder}/a place'):
-            faults += [*described(f'{folder}/a place'), *works(f'{folder}/a place'), *installed(folder), *of_a_tarball(folder)]
+            faults += [*described(f'{folder}/a place'), *works(f'{folder}/a place'), *installed(folder), *of_a_tarball(folder),
+                       *of_sources_alone(folder)]
     for fault in faults:
         print(fault)
     return len(faults) > 0

@@ -24,7 +24,7 @@ from concurrent.futures import ThreadPoolExecutor, as_completed
 
 from called import BUILT, EEL, TOP, heed_signals, parser_of
 
-LIMIT = 900  # seconds of a step: a busy machine may take many times as long as an idle one
+LIMIT = 1800  # seconds of a step: a busy machine may take many times as long as an idle one
 SHELL = ['eel', 'tools/terminal.sh', 'tools/install.sh', '.ci/run', 'examples/c/build.sh', 'examples/real/build.sh']
 # Words are split on purpose, and variables are set to nothing.
 KNOWN = 'SC1007,SC1091,SC2013,SC2015,SC2016,SC2034,SC2046,SC2086,SC2115,SC2148,SC2154,SC2207,SC2317'
@@ -68,6 +68,13 @@ STEPS = [('shell scripts', ['shellcheck', '-s', 'sh', '-e', KNOWN, *SHELL], [], 
          ('traps', script('all_tools.py', 'endings'), CROSS[:1], True)]
 
 
+def open_streams():
+    """Opens those of the three streams that are closed: else a file would have the number of one."""
+    while (opened := os.open(os.devnull, os.O_RDWR)) <= 2:
+        pass
+    os.close(opened)
+
+
 def write(content):
     """Writes to the error stream, if there is one."""
     with contextlib.suppress(OSError):
@@ -79,10 +86,10 @@ def say(line):
 
 
 def given_to_steps(folder):
-    """The environment of a step whose temporary files go to this folder."""
+    """The environment of a step whose temporary files go to this folder, and which never begins a build."""
     own = {name: value for name, value in os.environ.items() if not FOREIGN.fullmatch(name)}
     path = own.get('PATH') or os.defpath
-    return {**own, 'PATH': path, 'TMPDIR': folder, 'LC_ALL': 'C', 'PYTHONDONTWRITEBYTECODE': '1'}
+    return {**own, 'PATH': path, 'TMPDIR': folder, 'EEL_PROGRAM': BUILT, 'LC_ALL': 'C', 'PYTHONDONTWRITEBYTECODE': '1'}
 
 
 def end_all(begun, folder):
@@ -197,6 +204,7 @@ def main():
     wanted = parser.parse_args().steps
     if unknown := set(wanted) - {step[0] for step in STEPS}:
         parser.error(f'there is no step {sorted(unknown)[0]}')
+    open_streams()
     started, has_program = time.monotonic(), is_built()
     steps = sorted((step for step in STEPS if not wanted or step[0] in wanted), key=lambda step: step[0] not in LONG)
     with tempfile.TemporaryDirectory(prefix='eel-quick-', ignore_cleanup_errors=True) as room:

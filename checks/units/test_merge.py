@@ -1,7 +1,9 @@
 """Sums of counts, by hand."""
 import contextlib
 import io
+import sys
 import unittest
+from unittest import mock
 
 from given import written
 import merge
@@ -13,15 +15,22 @@ LATER = 'word 00010058 2\nword 0001005c 1\nwords 7 visited 2 visits 3\n'
 
 
 def summed(*contents):
-    names = list(map(written, contents))
-    parts = [merge.parts_of(name) for name in names]
-    return [line for kind in parts[0] for line in merge.lines_of(kind, *merge.added(names, kind, parts))]
+    """What merge.py prints of files with these contents."""
+    with mock.patch.object(sys, 'argv', ['merge.py', *map(written, contents)]), \
+            contextlib.redirect_stdout(io.StringIO()) as printed:
+        merge.main()
+    return printed.getvalue().splitlines()
 
 
 class Merge(unittest.TestCase):
     def test_adds_edges(self):
         self.assertEqual(summed(EDGES, MORE), ['edge 0 fall 00010054 00010058 1', 'edge 1 taken 00010058 00010058 4',
                                                'edge 2 untaken 00010058 00010068 8', 'edges 9 counted 5 executions 13'])
+
+    def test_adds_all_files(self):
+        self.assertEqual(summed(EDGES, MORE, MORE, EDGES), [
+            'edge 0 fall 00010054 00010058 2', 'edge 1 taken 00010058 00010058 8', 'edge 2 untaken 00010058 00010068 16',
+            'edges 9 counted 5 executions 26'])
 
     def test_adds_words(self):
         self.assertEqual(summed(WORDS, LATER), ['word 00010054 1', 'word 00010058 2', 'word 0001005c 8',
