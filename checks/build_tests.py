@@ -186,6 +186,16 @@ class Sums(unittest.TestCase):
             self.assertEqual(build.made_from('flow_tree', kit).decode(), told)
 
 
+class Signals(unittest.TestCase):
+    def test_a_second_one_changes_nothing(self):
+        """A signal that comes again while it is heeded, as where both a group and its leader get one."""
+        lines = ['import os, signal, sys', f'sys.path.insert(0, {TOP!r})', 'import build',
+                 'build.say = lambda line: os.kill(os.getpid(), signal.SIGTERM) or os.write(1, line.encode())',
+                 'signal.signal(signal.SIGTERM, build.end)', 'os.kill(os.getpid(), signal.SIGTERM)']
+        done = subprocess.run([sys.executable, '-B', '-c', '\n'.join(lines)], capture_output=True, text=True, timeout=60)
+        self.assertEqual((done.returncode, done.stdout.count('interrupted')), (143, 1), done.stderr)
+
+
 class Archives(unittest.TestCase):
     def test_there_and_back(self):
         with tempfile.TemporaryDirectory() as crates, mock.patch.object(build, 'CRATES', crates):
