@@ -11,6 +11,7 @@ import functools
 import glob
 import os
 import re
+import shlex
 import subprocess
 import sys
 import tempfile
@@ -214,41 +215,52 @@ def of_documents(writes):
 
 # ---- completions
 
-ASK = {'bash': '''. "$0"
+# What asks a shell for what it offers for the last of some words; it has the name of the file in $file.
+ASK = {'bash': '''. "$file"
     compopt() { :; }
-    how=$(complete -p -- "$1") && how=${how#*-F } || exit
-    COMP_WORDS=("$@") COMP_CWORD=$(($# - 1))
-    ${how%% *} "$1"
-    printf '%s\\n' "${COMPREPLY[@]}"''',
+    ask() {
+        local how
+        how=$(complete -p -- "$1") || return
+        how=${how#*-F } COMP_WORDS=("$@") COMP_CWORD=$(($# - 1)) COMPREPLY=()
+        ${how%% *} "$1"
+        printf '%s\\n' "${COMPREPLY[@]}"
+    }''',
        'zsh': '''_describe() { local name=${@[-1]}; print -l -- ${${(P)name}%%:*} }
     _files() { : }
-    read -A known <$0
-    (( $known[(I)$1] )) || exit
-    words=("$@") CURRENT=$# PREFIX=${@[-1]} service=$1
-    source $0''',
-       'fish': '''source $argv[1]
-    complete -C "$argv[2..]" | string replace -r '\\t.*' ""'''}
+    read -A known <$file
+    ask() {
+        words=("$@") CURRENT=$# PREFIX=${@[-1]} service=$1
+        (( ! $known[(I)$1] )) || source $file
+    }''',
+       'fish': '''source $file
+    function ask
+        complete -C "$argv" | string replace -r '\\t.*' ''
+    end'''}
 CALL = {'bash': ['bash', '-c'], 'zsh': ['zsh', '-f', '-c'], 'fish': ['fish', '--no-config', '-c']}
+END = 'end of an answer'
 
 
-def offered(shell, folder, *words):
-    """What a shell offers for the last of these words, in an empty folder, or what it complains of; the commands are in the
-    path."""
-    given = {**os.environ, 'PATH': f'{folder}:{os.environ["PATH"]}', 'HOME': f'{folder}/home'}
-    done = subprocess.run([*CALL[shell], ASK[shell], os.path.join(TOP, 'tools', f'eel.{shell}'), *words], text=True, env=given,
-                          cwd=f'{folder}/empty', stdin=subprocess.DEVNULL, stdout=subprocess.PIPE, stderr=subprocess.STDOUT)
-    return set(filter(None, done.stdout.splitlines()))
+def offered(shell, folder, questions):
+    """What a shell offers for the last word of each of these lists, in an empty folder, or what it complains of; the commands
+    are in the path."""
+    asked = ''.join(f'ask {" ".join(map(shlex.quote, words))}\necho {shlex.quote(END)}\n' for words in questions)
+    given = {**os.environ, 'PATH': f'{folder}:{os.environ["PATH"]}', 'HOME': f'{folder}/home',
+             'file': os.path.join(TOP, 'tools', f'eel.{shell}')}
+    done = subprocess.run([*CALL[shell], f'{ASK[shell]}\n{asked}'], text=True, env=given, cwd=f'{folder}/empty',
+                          stdin=subprocess.DEVNULL, stdout=subprocess.PIPE, stderr=subprocess.STDOUT)
+    answers = done.stdout.split(f'{END}\n')
+    return [set(filter(None, answer.split('\n'))) for answer in [*answers[:-1], *[''] * len(questions)][:len(questions)]]
 
 
-def wanted_of_eel():
-    """What must be offered behind some words of `eel`, by its --help."""
+def wanted():
+    """What must be offered behind some words, for a word that begins in each of some ways, by what --help says."""
     lines = lines_of_eel()
     verbs = {line.split()[0] for line in lines}
-    yield ['eel'], verbs
-    for verb in sorted(verb for verb in verbs if verb[0] != '-'):
-        yield ['eel', verb], {'--help'}
-    yield ['eel', 'edit', 'a', 'b'], {line.split()[3] for line in lines if line.startswith('edit ')}
-    yield ['eel', 'run', 'a'], set(NAME.findall(next(line for line in lines if line.startswith('run '))))
+    yield ['eel'], ['', '-'], verbs
+    yield from ((['eel', verb], ['-'], {'--help'}) for verb in sorted(verbs) if verb[0] != '-')
+    yield ['eel', 'edit', 'a', 'b'], [''], {line.split()[3] for line in lines if line.startswith('edit ')}
+    yield ['eel', 'run', 'a'], ['-'], set(NAME.findall(next(line for line in lines if line.startswith('run '))))
+    yield from (([name], ['-'], help_of(name).names()) for name in commands())
 
 
 def of_shell(shell):
@@ -258,11 +270,12 @@ def of_shell(shell):
         for name, file in {'eel': 'eel', **commands()}.items():
             os.symlink(os.path.join(TOP, file), os.path.join(folder, name))
         os.mkdir(f'{folder}/empty')
-        calls = [*wanted_of_eel(), *(([name], help_of(name).names()) for name in commands())]
-        for words, wanted in calls:
-            found = {name for last in ('', '-') for name in offered(shell, folder, *words, last)} - {'--'}
-            for name in sorted(found ^ wanted):
-                yield f'tools/eel.{shell}: {" ".join(words)}: {name}: {"not offered" if name in wanted else "is offered"}'
+        calls = list(wanted())
+        answers = iter(offered(shell, folder, [[*words, begun] for words, ways, _ in calls for begun in ways]))
+        for words, ways, names in calls:
+            found = set().union(*(next(answers) for _ in ways)) - {'--'}
+            for name in sorted(found ^ names):
+                yield f'tools/eel.{shell}: {" ".join(words)}: {name}: {"not offered" if name in names else "is offered"}'
 
 
 def main():
