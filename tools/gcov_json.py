@@ -6,6 +6,7 @@ import re
 from collections import defaultdict
 
 from debug_lines import Line
+from line_counts import has_work
 from source_counts import branch_ways
 
 FORMAT = '1'
@@ -72,6 +73,7 @@ class GcovJson:
     def line(self, line, count):
         names = (self.symbol_of.get(self.part_of(address)) for address in self.words[line])
         name = next(filter(None, names), self.owner.get(line))
-        has_unexecuted = not count or not all(map(self.counts.times, self.words[line]))
+        has_unexecuted = not count or any(has_work(self.shown.word(address)) and not self.counts.times(address)
+                                          for address in self.words[line])
         return {'line_number': line.number, 'count': count, 'unexecuted_block': has_unexecuted,
                 'branches': self.branches[line], **({'function_name': name} if name else {})}
