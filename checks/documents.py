@@ -7,12 +7,13 @@ them must have; commands of `eel` and options of scripts. The documents are READ
 beside other files. A name stands in the code where it occurs outside of comments. A path of one machine is a fault.
 
 Of all documents together: README.md has at most 130 lines; docs/REFERENCE.md has the commands that the launcher's --help,
-the manual page, the completions and the parser have, each status, line of an outcome, and trap; a figure with its unit
-(a build's minutes, must-fail edits, and the like) is one of the figures of docs/PERFORMANCE.md. What is counted there must
-be what is here: exactly, and of lines within a fiftieth. --write counts it anew. docs/layers.svg has the crates of
-docs/layers.dot, by layers.
+the manual page, the completions and the parser have, each status, line of an outcome, and trap, and each key of the schema
+of a profile; a figure with its unit (a build's minutes, must-fail edits, and the like) is one of the figures of
+docs/PERFORMANCE.md. What is counted there must be what is here: exactly, and of lines within a fiftieth. --write counts it
+anew. docs/layers.svg has the crates of docs/layers.dot, by layers.
 """
 import glob
+import json
 import os
 import re
 import subprocess
@@ -32,7 +33,7 @@ SUFFIXES = {('.', suffix) for suffix in 'py sh md antt rt c h S svg png txt edit
 PATH = re.compile(r'[\w.+-]+(?:/[\w.+-]+)*/?')
 NAME = re.compile(r"[A-Za-z_][A-Za-z0-9_']*")
 COMMENTS = {'.rt': '//', '.antt': '--', '.py': '#', '.sh': '#', '.c': '//', '.h': '//', '.S': '!', '.txt': '#',
-            '.edit': None}
+            '.edit': None, '.json': None}
 
 
 def files():
@@ -185,6 +186,7 @@ UNITS = '|'.join(['processor minutes', 'minutes', 'GB of disk', 'GB of memory', 
                   'times the steps', 'must-fail edits', 'programs with known ends'])
 FIGURE = re.compile(rf'(\d[\d.,]*(?: to \d[\d.,]*)?) ({UNITS})\b')
 PARSER, OUTCOMES = 'crates/eel_said/specs/Command.antt', 'crates/eel_said/src/outcome.rt'
+SCHEMA = 'docs/profile.schema.json'
 SHOWN, TRAPS = 'crates/eel_said/specs/Outcome.antt', 'crates/v8_step/specs/Traps.antt'
 
 
@@ -247,6 +249,17 @@ def outcome_faults():
             yield f'{REFERENCE}: trap {int(number, 16)}, {name}, is left out'
 
 
+def json_faults():
+    """Keys of a profile in JSON that the reference has otherwise than the schema."""
+    schema = json.loads(read(SCHEMA))
+    stated = {row[0].strip('`'): set(re.findall('`([a-z_0-9]+)`', row[1])) for row in cells(section(read(REFERENCE), 'Scripts'))}
+    for key, value in schema['properties'].items():
+        name = value.get('items', value).get('$ref')
+        wanted = schema['$defs'][name.rpartition('/')[2]]['properties'].keys() if name else set(value.get('enum', ()))
+        if stated.get(key) != wanted:
+            yield f'{REFERENCE}: {key}: {sorted(stated.get(key, ()))} where {SCHEMA} has {sorted(wanted)}'
+
+
 def lines_of(pattern, comment):
     """How many lines of code the files have: neither blank nor a comment."""
     names = glob.glob(os.path.join(TOP, 'crates', '*', pattern), recursive=True)
@@ -307,6 +320,7 @@ def faults_of_all(documents):
         yield f'{README}: {lines} lines, {MOST_LINES} at most'
     yield from command_faults()
     yield from outcome_faults()
+    yield from json_faults()
     yield from figure_faults(documents)
     yield from picture_faults()
 

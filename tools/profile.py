@@ -281,7 +281,7 @@ def parsed():
     parser.add_argument('--json', metavar='FILE', help='write all figures as JSON, which docs/profile.schema.json describes: '
                                                        'packed where the name ends in .gz; in place of the report, to the standard '
                                                        'output, where it is -')
-    parser.add_argument('--gcov-json', metavar='FILE', help='write lines and functions as `gcov --json-format` does; the same')
+    parser.add_argument('--gcov-json', metavar='FILE', help='write lines, functions and branches as gcov does in JSON; the same')
     printer = parser.add_mutually_exclusive_group()
     for name, (_, text) in PRINTERS.items():
         printer.add_argument(f'--{name}', dest='printer', action='store_const', const=name, help=text)
