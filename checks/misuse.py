@@ -22,7 +22,8 @@ PROGRAM, DATA = os.path.join(TOP, 'examples', 'three_words'), os.path.join(TOP, 
 # Options of profile.py that don't fit, and what is said of them.
 MISFITS = {'--top 0': "'0' is no number from 1 on", '--min-percent 101': "'101' is no number from 0 to 100",
            '--min-percent nan': "'nan' is no number", '--all --top 3': '--all and --top exclude each other',
-           '--json - --lcov': '`-` wants no other', '--json - --gcov-json -': '`-` wants no other', '--json - --top 1': '`-` wants no other',
+           '--json a --counts a': 'a would be written twice', '--json - --lcov': '`-` wants no other',
+           '--json - --gcov-json -': '`-` wants no other', '--json - --top 1': '`-` wants no other',
            **{f'--{printer} {option}': f'--{printer} takes no {option.split()[0]}'
               for printer, option in [('lcov', '--top 3'), ('annotate', '--function place'), ('graph', '--min-percent 1'),
                                       ('callgrind', '--source-file a.c'), ('folded', '--top 1'), ('source', '--function a')]}}

@@ -42,10 +42,15 @@ def percentage(text):
 
 
 def names_of(name):
-    """The names by which a function is found: its own, that of the function of which it is a part or a copy, and that without
-    its arguments."""
+    """The names by which a function is found: its own, that of the function of which it is a part or a copy, that without
+    arguments and types, and that without namespaces; of a routine without a name its address."""
     own = name.removesuffix(' (merged)')
-    return {own, function_of(own), function_of(own).partition('(')[0]}
+    function = function_of(own)
+    plain = function.replace('(anonymous namespace)::', '').partition('(')[0]
+    while (shorter := re.sub('<[^<>]*>', '', plain)) != plain:
+        plain = shorter
+    plain = plain.rpartition(' ')[2]
+    return {own, function, plain, plain.rpartition('::')[2]}
 
 
 @dataclass(frozen=True)

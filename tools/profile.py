@@ -49,6 +49,9 @@ PRINTERS = {'annotate': ('annotate', 'print each instruction with how often it r
             'callgrind': ('source_counts', 'print a profile for callgrind_annotate and KCachegrind'),
             'folded': ('source_counts', 'print stacks of calls with what they cost, for flame graphs'),
             'graph': ('graph', 'print the call graph, or the flow graph of --routine, for dot')}
+FORMS = {'json': 'write all figures as JSON, as docs/profile.schema.json says; packed where the name ends in .gz; for - in place of '
+                 'the report, to the standard output',
+         'gcov_json': 'write lines, functions and branches as gcov does in JSON; the same'}
 
 
 def watched(words, given, stdout):
@@ -278,10 +281,8 @@ def parsed():
     parser.add_argument('--all', action='store_true', help='print all functions')
     add_options(parser)
     parser.add_argument('--counts', metavar='FILE', help='keep what was counted, as `eel visits` and `counts` print it')
-    parser.add_argument('--json', metavar='FILE', help='write all figures as JSON, which docs/profile.schema.json describes: '
-                                                       'packed where the name ends in .gz; in place of the report, to the standard '
-                                                       'output, where it is -')
-    parser.add_argument('--gcov-json', metavar='FILE', help='write lines, functions and branches as gcov does in JSON; the same')
+    for form, text in FORMS.items():
+        parser.add_argument(f'--{form.replace("_", "-")}', metavar='FILE', help=text)
     printer = parser.add_mutually_exclusive_group()
     for name, (_, text) in PRINTERS.items():
         printer.add_argument(f'--{name}', dest='printer', action='store_const', const=name, help=text)
@@ -292,21 +293,30 @@ def parsed():
     parser.add_argument('--source-root', metavar='FOLDER', action='append',
                         help=f'{ROOT_HELP}; with --annotate their lines are printed, too')
     words = parser.parse_args()
-    if not 0 <= words.limit < 2 ** 64 - MOST_STEPS:
-        parser.error('the limit is out of range')
-    if words.routine and words.printer not in ('annotate', 'graph') or words.code and words.printer != 'graph':
-        parser.error('--routine wants --annotate or --graph, and --code wants --graph')
-    if words.inlined and words.printer != 'callgrind':
-        parser.error('--inlined wants --callgrind')
     words.filters = Filters.of(words)
-    for option in words.filters.options() if words.printer else ():
-        parser.error(f'--{words.printer} takes no {option}, which is for the report of functions, loops and lines')
-    if words.all and words.top:
-        parser.error('--all and --top exclude each other')
-    words.forms = {name: getattr(words, name) for name in ('json', 'gcov_json') if getattr(words, name) is not None}
-    if '-' in words.forms.values() and (words.printer or words.filters.options() or len(words.forms) > 1):
-        parser.error('`-` wants no other option that says what is printed')
+    words.forms = {form: name for form in FORMS if (name := getattr(words, form)) is not None}
+    for misfit in misfits(words):
+        parser.error(misfit)
     return words
+
+
+def misfits(words):
+    """What doesn't fit together of the options."""
+    if not 0 <= words.limit < 2 ** 64 - MOST_STEPS:
+        yield 'the limit is out of range'
+    if words.routine and words.printer not in ('annotate', 'graph') or words.code and words.printer != 'graph':
+        yield '--routine wants --annotate or --graph, and --code wants --graph'
+    if words.inlined and words.printer != 'callgrind':
+        yield '--inlined wants --callgrind'
+    for option in words.filters.options() if words.printer else ():
+        hint = '; --routine names one' if option == '--function' and words.printer in ('annotate', 'graph') else ''
+        yield f'--{words.printer} takes no {option}, which is for the report of functions, loops and lines{hint}'
+    if words.all and words.top:
+        yield '--all and --top exclude each other'
+    if '-' in words.forms.values() and (words.printer or words.filters.options() or len(words.forms) > 1):
+        yield '`-` wants no other option that says what is printed'
+    written = list(filter(None, [words.output, words.counts, *words.forms.values()]))
+    yield from (f'{name} would be written twice' for name in written if written.count(name) > 1)
 
 
 def temporary_folder():

@@ -3,6 +3,7 @@ import contextlib
 import io
 import re
 import unittest
+from argparse import ArgumentTypeError
 from fractions import Fraction
 from types import SimpleNamespace
 
@@ -72,8 +73,11 @@ class Choice(unittest.TestCase):
         for name, pattern, fits in [('value', 'value', True), ('value', 'val*', True), ('value', 'alu', False),
                                     ('value.isra.0', 'value', True), ('value.isra.0', 'value.isra.*', True),
                                     ('value.party', 'value', False), ('at 00010054 (merged)', 'at 0001005?', True),
-                                    ('f(int, char)', 'f', True), ('f(int, char)', 'f(int,*)', True), ('f(int) [clone .isra.0]', 'f', True),
-                                    ('Value', 'value', False), ('g', '[a-f]', False)]:
+                                    ('f(int, char)', 'f', True), ('f(int, char)', 'f(int,*)', True),
+                                    ('f(int) [clone .isra.0]', 'f', True), ('Value', 'value', False), ('g', '[a-f]', False), ('at 00010054', '00010054', True),
+                                    ('T n::most<T<int> >(T<int>, int)', 'most', True), ('T n::most<T<int> >(T)', 'n::most', True),
+                                    ('T n::most<T<int> >(T)', 'n', False), ('n::S::area() const', 'S::area', False),
+                                    ('n::S::area() const', '*S::area', True), ('(anonymous namespace)::f(int)', 'f', True)]:
             self.assertEqual(Filters(function=pattern).takes_function(name), fits, (name, pattern))
         self.assertEqual(names_of('f(int) [clone .isra.0]'), {'f(int) [clone .isra.0]', 'f(int)', 'f'})
 
@@ -84,8 +88,9 @@ class Choice(unittest.TestCase):
 
     def test_wants_numbers(self):
         self.assertEqual((natural('12'), percentage('0.5'), percentage('100')), (12, Fraction(1, 2), Fraction(100)))
-        for parse, text in (natural, '0'), (natural, '-1'), (natural, '1.5'), (percentage, '100.1'), (percentage, 'nan'), (percentage, '1/2'):
-            self.assertRaises(Exception, parse, text)
+        for parse, texts in (natural, ['0', '-1', '1.5', '']), (percentage, ['100.1', 'nan', '1/2', '-1', '']):
+            for text in texts:
+                self.assertRaises(ArgumentTypeError, parse, text)
 
 
 class Rows(unittest.TestCase):

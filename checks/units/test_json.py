@@ -192,7 +192,8 @@ class Lines(unittest.TestCase):
         os.makedirs(folder, exist_ok=True)
         with open(f'{folder}/native.c', 'w') as opened:
             opened.write(NATIVE)
-        subprocess.run('gcc --coverage -c native.c && gcc --coverage native.o -o native && ./native', shell=True, cwd=folder, check=True)
+        subprocess.run('gcc --coverage -c native.c && gcc --coverage native.o -o native && ./native', shell=True, check=True,
+                       cwd=folder)
         told = subprocess.run(['gcov', '--json-format', '--stdout', '--branch-probabilities', 'native.o'], cwd=folder,
                               capture_output=True, check=True).stdout
         found = parsed(told)
