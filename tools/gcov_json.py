@@ -19,11 +19,12 @@ class GcovJson:
         self.counts, self.shown, self.run, self.debug = counts, counts.shown, counts.run, counts.debug
         self.words, self.branches = defaultdict(list), defaultdict(list)
         self.part_lines, self.part_blocks = defaultdict(set), defaultdict(set)
+        bodies = [function.bodies for function in self.debug.functions.values()]
+        self.known = set().union(*bodies)
         self.find_parts()
         for line, ways in branch_ways(counts):
             self.branches[line] += [{'count': count, 'throw': False, 'fallthrough': way == 'untaken'} for way, count in ways.items()]
-        self.named = list(zip([function.bodies for function in self.debug.functions.values()] + [{start} for start in counts.alone],
-                              counts.functions))
+        self.named = list(zip(bodies + [{start} for start in counts.alone], counts.functions))
         self.symbol_of = {part: called.symbol or called.name for parts, called in self.named for part in parts}
         self.owner = {called.line: called.symbol for _, called in self.named if called.symbol}
         self.owner.update((row.line, self.symbol_of[part]) for row in self.debug.marks
@@ -40,7 +41,8 @@ class GcovJson:
                 self.part_blocks[part].add(block.first)
 
     def part_of(self, address):
-        return self.debug.body_at.get(address, self.shown.routine_of(address))
+        body = self.debug.body_at.get(address)
+        return body if body in self.known else self.shown.routine_of(address)
 
     def lines(self):
         """One line, as gcov prints it."""
@@ -49,8 +51,8 @@ class GcovJson:
 
     def compiler(self):
         """The version of the compiler that most units name, which isn't the assembler."""
-        found = re.findall(r'\d+(?:\.\d+)+', ' '.join(name for name in self.debug.producers if not name.startswith('GNU AS')))
-        return max(sorted(found), key=found.count, default='0')
+        found = [re.search(r'\d+(?:\.\d+)+|$', name)[0] for name in self.debug.producers if not name.startswith('GNU AS')]
+        return max(sorted(found), key=found.count, default='')
 
     def files(self):
         functions = defaultdict(list)

@@ -46,7 +46,8 @@ class Report:
         return routine in self.routines and self.filters.takes_line(line)
 
     def takes_word(self, address):
-        return self.shown.routine_of(address) in self.routines and self.filters.takes_line(self.debug.line_at.get(address))
+        is_wanted = self.filters.function is None or self.shown.routine_of(address) in self.routines
+        return is_wanted and self.filters.takes_line(self.debug.line_at.get(address))
 
     def split(self, rows, is_wanted, count_of, most):
         return self.filters.split(rows, is_wanted, count_of, self.run.total, most)
