@@ -25,12 +25,14 @@ from beside_callgrind import ELSEWHERE, functions, jump_faults, natively
 from beside_gcov import ARGUMENTS, COMPILERS, DATA, LEVELS, LINK, PROGRAMS, by_gcov, call, compiled, counts, given_to, hottest
 from called import EEL, TOP, built, needs, parser_of, read_file
 from callgrind_file import CallgrindFile
+from schema import Schema, values_of
 
 BUILDS = [[level] for level in LEVELS] + [['-O2', '-flto'], ['-O2', '-gsplit-dwarf'], ['-O2', '-s']]
 STANDING = ['queens', 'dispatch']
 LARGE, TIMED, SECONDS = 'large', ['annotate.py', 'graph.py'], 5
 ENDINGS, TRAPPED = 'endings', 3
 ENDED = 0, TRAPPED
+SCHEMAS = {'json': 'docs/profile.schema.json', 'gcov': 'checks/gcov.schema.json'}
 # What a program's routine `stop` does, how its run ends there, and which of its words check.py names beforehand.
 STOPS = [('ld [%g0+2],%g1', 'trap 7: misaligned address', ''), ('ld [%g0],%g1', 'trap 9: no memory there', ''),
          ('udiv %g1,%g0,%g1', 'trap 42: division by zero', ''), ('.word 0', 'trap 2: illegal instruction', ''),
@@ -143,6 +145,33 @@ class Session:
         for fault in jump_faults(profile):
             self.fault('--callgrind', *options, 'has', fault)
 
+    def json(self, tracefile):
+        """A profile in JSON fits its schema and comes to all instructions; lines in gcov's form have the tracefile's counts."""
+        names = {form: f'{self.name}.{form}.json' for form in SCHEMAS}
+        forms = {'json': [], 'gcov': ['--gcov-json', names['gcov']] if tracefile else []}
+        self.tool('profile.py', '--json', names['json'], *forms['gcov'], self.name, *self.arguments, statuses=ENDED)
+        found = {form: values_of(name)[0] for form, name in names.items() if os.path.exists(name)}
+        for form, value in found.items():
+            for fault in list(Schema(values_of(os.path.join(TOP, SCHEMAS[form]))[0]).faults(value))[:3]:
+                self.fault(names[form], fault)
+        for key, number in ('functions', 'instructions'), ('kinds', 'instructions'), ('instructions', 'count'):
+            if sum(item[number] for item in found['json'][key]) != self.total:
+                self.fault('--json has other', key)
+        for file in found['gcov']['files'] if 'gcov' in found else ():
+            had = Counter({line['line_number']: line['count'] for line in file['lines']})
+            record = tracefile.partition(f'SF:{file["file"]}\n')[2].partition('end_of_record')[0]
+            if had != Counter({int(line): int(count) for line, count in re.findall(r'^DA:(\d+),(\d+)', record, re.M)}):
+                self.fault('--gcov-json has other counts of', file['file'])
+
+    def filtered(self):
+        """Whatever rows are printed of functions and of kinds, they come to all with what is left out."""
+        for options in ['--top', '2'], ['--min-percent', '4.5'], ['--function', '*[a-m]*', '--top', '3']:
+            printed = self.tool('profile.py', *options, self.name, *self.arguments, statuses=ENDED)
+            for table in re.findall(r'^  share .*(?:function|kind)\n(?:.+\n)*', printed, re.M):
+                rows = re.findall(r'^ *[\d.]+ % +(\d+) (?!.*\(through a pointer\))', table, re.M)
+                if sum(map(int, rows)) != self.total:
+                    self.fault(*options, 'has', table)
+
     def switches(self, tracefile):
         """A switch that `eel show` knows is a branch of more than two ways, if it has a line."""
         ways = Counter(re.findall(r'^BRDA:(\d+,\d+),', tracefile, re.M))
@@ -189,6 +218,8 @@ class Session:
         self.tool('check.py', name, statuses=(0, 2))
         tracefile = self.tool('profile.py', '--lcov', *run, statuses=(0, *self.without_lines))
         self.switches(tracefile)
+        self.json(tracefile)
+        self.filtered()
         return counts(self.tool('source_counts.py', name, visits)), functions(tracefile)
 
 

@@ -8,20 +8,22 @@ beside other files. A name stands in the code where it occurs outside of comment
 is a row of a table that begins as another one does, by a name.
 
 Of all documents together: README.md has at most 130 lines; docs/REFERENCE.md has the commands that the launcher's --help,
-the manual page, the completions and the parser have, each status, line of an outcome, trap and limit of a file, and each
-script; a figure with its unit (a build's minutes, must-fail edits, and the like) is one of the figures of
-docs/PERFORMANCE.md. What is counted there must be what is here: exactly, and of lines within a fiftieth. --write counts it
-anew. A commit at which something was measured is one of the repository. How many arguments there may be is said as the
-definition has it. docs/layers.svg has the crates of docs/layers.dot, by layers, docs/MAP.md those of crates.txt, and
-checks/README.md the scripts beside it. The formulas of docs/STATEMENT.md are those of the clause and of its definition.
+the manual page, the completions and the parser have, each status, line of an outcome, trap and limit of a file, each script,
+and each key of the schema of a profile; a figure with its unit (a build's minutes, must-fail edits, and the like) is one of
+the figures of docs/PERFORMANCE.md. What is counted there must be what is here: exactly, and of lines within a fiftieth.
+--write counts it anew. A commit at which something was measured and that the repository lacks is said, and is no fault. How
+many arguments there may be is said as the definition has it. docs/layers.svg has the crates of docs/layers.dot, by layers,
+docs/MAP.md those of crates.txt, and checks/README.md the scripts beside it. The formulas of docs/STATEMENT.md are those of
+the clause and of its definition.
 """
 import glob
+import json
 import os
 import re
 import subprocess
 import sys
 
-from called import TOP, parser_of
+from called import TOP, note, parser_of
 from programs import C_PROGRAMS, SMALL
 
 # What documents name of the world outside: programs, and words of file formats and of the standards.
@@ -35,7 +37,7 @@ SUFFIXES = {('.', suffix) for suffix in 'py sh md antt rt c h S svg png txt edit
 PATH = re.compile(r'[\w.+-]+(?:/[\w.+-]+)*/?')
 NAME = re.compile(r"[A-Za-z_][A-Za-z0-9_']*")
 COMMENTS = {'.rt': '//', '.antt': '--', '.py': '#', '.sh': '#', '.c': '//', '.h': '//', '.S': '!', '.txt': '#',
-            '.edit': None}
+            '.edit': None, '.json': None}
 
 
 def files():
@@ -208,6 +210,7 @@ NUMBER = r'\d[\d.,]*'
 FIGURE = re.compile(rf'({NUMBER}(?: to {NUMBER})?) ({UNITS})\b|({NUMBER} to {NUMBER})\s+(times)\b|'
                     rf'\b(?:the|all|its)\s+({NUMBER})\s+(programs)\b')
 PARSER, OUTCOMES = 'crates/eel_said/specs/Command.antt', 'crates/eel_said/src/outcome.rt'
+SCHEMA = 'docs/profile.schema.json'
 SHOWN, TRAPS = 'crates/eel_said/specs/Outcome.antt', 'crates/v8_step/specs/Traps.antt'
 MAP, ARGUMENTS = 'docs/MAP.md', 'crates/v8_process/specs/Arguments.antt'
 STATEMENT, EDITING = 'docs/STATEMENT.md', 'crates/edit_core/src/editing.rt'
@@ -309,16 +312,30 @@ def list_faults():
                 yield f'{folder}/{name}: left out of what {"checks/README.md" if folder == "checks" else REFERENCE} lists'
 
 
-def commit_faults():
+def tell_commits():
     """Commits at which something was measured that the repository, where it is whole, doesn't have."""
     def git(*words, given=''):
-        return subprocess.run(['git', *words], cwd=TOP, input=given, capture_output=True, text=True).stdout
+        try:
+            return subprocess.run(['git', *words], cwd=TOP, input=given, capture_output=True, text=True).stdout
+        except OSError:
+            return ''
 
     if git('rev-parse', '--is-shallow-repository').strip() == 'false':
         named = sorted(set(re.findall(r'\b(?=[a-f\d]*\d)[a-f\d]{8}\b(?=\)| \||[:,])', read(PERFORMANCE))))
         for line in git('cat-file', '--batch-check', given=''.join(f'{name}\n' for name in named)).split('\n'):
             if line.endswith(' missing'):
-                yield f'{PERFORMANCE}: {line.split()[0]}: no commit'
+                note(f'{PERFORMANCE}: {line.split()[0]}: no commit')
+
+
+def json_faults():
+    """Keys of a profile in JSON that the reference has otherwise than the schema."""
+    schema = json.loads(read(SCHEMA))
+    stated = {row[0].strip('`'): set(re.findall('`([a-z_0-9]+)`', row[1])) for row in cells(section(read(REFERENCE), 'Scripts'))}
+    for key, value in schema['properties'].items():
+        name = value.get('items', value).get('$ref')
+        wanted = schema['$defs'][name.rpartition('/')[2]]['properties'].keys() if name else set(value.get('enum', ()))
+        if stated.get(key) != wanted:
+            yield f'{REFERENCE}: {key}: {sorted(stated.get(key, ()))} where {SCHEMA} has {sorted(wanted)}'
 
 
 def lines_of(pattern, comment):
@@ -399,9 +416,10 @@ def faults_of_all(documents):
     yield from command_faults()
     yield from outcome_faults()
     yield from limit_faults(documents)
+    yield from json_faults()
     yield from figure_faults(documents)
     yield from list_faults()
-    yield from commit_faults()
+    tell_commits()
     yield from picture_faults()
     yield from formula_faults()
 

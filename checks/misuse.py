@@ -24,6 +24,14 @@ from programs import Program
 WORDS, CONTENTS, MISSING, DEVICE = 64, 65, 66, 74
 SECONDS = 300  # after which a script hangs
 PROGRAM, DATA = os.path.join(TOP, 'examples', 'three_words'), os.path.join(TOP, 'crates', 'program_runs', 'data')
+# Options of profile.py that don't fit, and what is said of them.
+MISFITS = {'--top 0': "'0' is no number from 1 on", '--min-percent 101': "'101' is no number from 0 to 100",
+           '--min-percent nan': "'nan' is no number", '--all --top 3': '--all and --top exclude each other',
+           '--json a --counts a': 'a would be written twice', '--json - --lcov': '`-` wants no other',
+           '--json - --gcov-json -': '`-` wants no other', '--json - --top 1': '`-` wants no other',
+           **{f'--{printer} {option}': f'--{printer} takes no {option.split()[0]}'
+              for printer, option in [('lcov', '--top 3'), ('annotate', '--function place'), ('graph', '--min-percent 1'),
+                                      ('callgrind', '--source-file a.c'), ('folded', '--top 1'), ('source', '--function a')]}}
 SHOWN = ['annotate.py', 'graph.py', 'source_counts.py']
 WANT_MORE = ['source_counts.py', 'compare.py', 'edges.py', 'patch.py']  # words than one
 TAKE_FILES = ['listing.py', 'plain_count.py', 'steps.py', 'beside_walk.py', 'beside_objdump.py', 'proof_costs.py',
@@ -86,10 +94,11 @@ def streams(folder):
     yield f'{tools}/profile.py {program} </dev/null >&-', DEVICE
     yield f'{tools}/profile.py {program} </dev/null 2>&-', 0
     yield f'{tools}/profile.py {program} </dev/null >/dev/full', DEVICE
-    yield f'{tools}/profile.py --all {program} </dev/null | head -1; exit ${{PIPESTATUS[0]}}', 0
+    for option in '--all', '--json -':
+        yield f'{tools}/profile.py {option} {program} </dev/null | head -1; exit ${{PIPESTATUS[0]}}', 0
     yield f'TMPDIR={folder}/missing {tools}/profile.py {program} </dev/null', 0
     yield f'{tools}/profile.py -n 0 {program} </dev/null', 3
-    for option in '--counts', '--output':
+    for option in '--counts', '--output', '--json':
         yield f'{tools}/profile.py {option} {folder}/missing/out {program} </dev/null', DEVICE
     for script in SHOWN:
         yield f'{tools}/{script} {program} <(cat {counts})', 0
@@ -106,6 +115,13 @@ def told(folder):
     yield f'{tools}/profile.py --lcov {program} {never}', CONTENTS, 'has no line tables'
     yield f'{tools}/profile.py --annotate --routine plac {data}/queens {never}', WORDS, 'there is place.constprop.0'
     yield f'{tools}/profile.py {python} {never}', CONTENTS, 'file fault'
+    yield f'{tools}/profile.py --function plcae {data}/queens {never}', WORDS, 'no function plcae; there is place.constprop.0'
+    yield f'{tools}/profile.py --source-file queens.c {data}/queens {never}', CONTENTS, 'has no line tables'
+    yield f'{tools}/profile.py --gcov-json {folder}/lines {data}/queens {never}', CONTENTS, 'has no line tables'
+    yield f'{tools}/profile.py --json {folder}/missing/out {program} {never}', DEVICE, 'No such file or directory'
+    yield f'ln -s /dev/full {folder}/json && {tools}/profile.py --json {folder}/json {program} </dev/null', DEVICE, 'No space left'
+    for words, said in MISFITS.items():
+        yield f'{tools}/profile.py {words} {data}/queens {never}', WORDS, said
     yield f'{tools}/profile.py --names {folder}/text {program} {never}', CONTENTS, 'no line of nm'
     yield f'{tools}/profile.py --output {folder}/missing/out {program} {never}', DEVICE, 'No such file or directory'
     yield f'{tools}/profile.py', WORDS, 'required: FILE\n'

@@ -45,11 +45,15 @@ class Copy:
 
 @dataclass
 class Function:
-    """A function where it was declared, with the addresses at which its code begins, and its inlined copies."""
+    """A function where it was declared, with the addresses at which its code begins, its inlined copies, and the keys by
+    which `body_at` names its code and theirs."""
     name: str
     line: Line
+    symbol: str
+    column: int = 0
     starts: list = field(default_factory=list)
     copies: list = field(default_factory=list)
+    bodies: set = field(default_factory=set)
 
 
 def marks_statements(rows):
@@ -110,7 +114,7 @@ class DebugLines:
     def __init__(self, shown, roots=None):
         self.place_of = functools.cache(lambda path: below(path, roots))
         self.shown, self.marks, self.line_at, self.body_at, self.functions = shown, [], {}, {}, {}
-        self.is_optimised, self.missing = False, []
+        self.is_optimised, self.missing, self.producers = False, [], []
         self.start, self.end = shown.text().start, shown.text().stop
         try:
             self.read(dwarf.Dwarf(shown.linked or shown.elf))
@@ -172,6 +176,7 @@ class DebugLines:
     def add_bodies(self, unit):
         """Inner bodies come after those in which they lie, and take their words; what the linker left out has none."""
         producer = unit.attribute(dwarf.PRODUCER, '')
+        self.producers.append(producer)
         self.is_optimised |= ' -O' in producer and not is_plain(producer)
         for entry in unit.functions():
             if not producer.startswith('GNU'):  # clang doesn't tell its options
@@ -195,7 +200,9 @@ class DebugLines:
         if not line:
             return
         name = named.get(dwarf.LINKAGE_NAME) or named.get(dwarf.MIPS_LINKAGE_NAME) or named.get(dwarf.NAME, '?')
-        function = self.functions.setdefault((line, name), Function(name, line))
+        column = named.get(dwarf.DECL_COLUMN) or 0
+        function = self.functions.setdefault((line, name), Function(name, line, name, column))
+        function.bodies.add((id(unit), entry.offset))
         if entry.tag == dwarf.SUBPROGRAM:
             function.starts.append(ranges[0][0])
         else:

@@ -11,7 +11,7 @@ old_mark="# EEL's launcher, put here by its --install" # in what older launchers
 placed_files() {
     echo "755 libexec/eel/eel_main $program"
     echo "755 share/eel/eel $here/eel"
-    for name in NOTICE CHANGELOG.md docs/REFERENCE.md docs/TUTORIAL.md; do echo "644 share/eel/$name $here/$name"; done
+    for name in NOTICE CHANGELOG.md docs/REFERENCE.md docs/TUTORIAL.md docs/profile.schema.json; do echo "644 share/eel/$name $here/$name"; done
     for file in "$here"/tools/*.*; do
         [ "${file%.md}" = "$file" ] || continue
         echo "$([ -x "$file" ] && echo 755 || echo 644) share/eel/tools/${file##*/} $file"

@@ -69,13 +69,13 @@ class InstructionMix:
         self.taken = {address: sum(map(run.edge, edges)) for address, edges in ways.items()} if self.is_known else {}
         self.events = [event for event in EVENTS if event != 'Bct' or self.is_known]
 
-    def counts(self):
-        """The instructions by their kinds."""
-        found = Counter()
-        for address, kind in self.kinds.items():
-            found[kind] += self.run.words[address]
+    def counts(self, is_wanted=lambda address: True):
+        """The instructions by their kinds, of all words or of some."""
+        found, wanted = Counter(), list(filter(is_wanted, self.kinds))
+        for address in wanted:
+            found[self.kinds[address]] += self.run.words[address]
         if self.is_known and found[CONDITIONAL]:
-            found[TAKEN] = sum(self.taken.values())
+            found[TAKEN] = sum(self.taken.get(address, 0) for address in wanted)
             found[UNTAKEN] = found.pop(CONDITIONAL) - found[TAKEN]
         return +found
 

@@ -5,16 +5,18 @@ It edits the program FILE with counters, runs that with the arguments and the st
 with the instructions that each took, the share of those and of what it called, and how often it was called; the loops
 and lines that took most; and its instructions by kind. Each instruction is counted by itself, so that all figures are
 exact, but for the shares with what is called: those are shared out among callers. What the program puts out goes to the
-error stream. Options stand before FILE; with some another script prints what was counted.
+error stream. Options stand before FILE: some say which functions, loops and lines are printed, with others another script
+prints what was counted.
 
 The status is 0 where the program exited, or its own status with --exit-status; and 3 where it was stopped or trapped.
 Where it can't be run the status is from 64 to 78, as of `eel run`, and the error stream says why. An interrupt ends a
 run, of which then the first steps alone are profiled.
 """
-from scripting import (DEVICE, EEL, MISSING, Parser, note, opened_for_output, print_lines, read_all, read_file, read_lines,
-                       refuse, said_if_long, script, wants_built, why)
+from scripting import (DEVICE, EEL, MISSING, Parser, note, opened_for_output, print_lines, read_all, read_file, refuse,
+                       said_if_long, script, wants_built, why)
 
 import argparse
+import gzip
 import importlib
 import os
 import re
@@ -24,21 +26,21 @@ import sys
 import tempfile
 import threading
 import time
-from collections import Counter
+from contextlib import nullcontext
 
-from call_costs import POINTER_NAME
 from debug_lines import ROOT_HELP, DebugLines
 from endings import ending_of, place_of, stray_jump
-from instruction_mix import InstructionMix
-from loops import loops
+from filters import Filters, add_options
+from gcov_json import GcovJson
+from profile_json import ProfileJson
+from report import FUNCTIONS, Report
 from runs import run_of
 from dwarf import Elf
-from shown import NAMES_HELP, Shown, call_eel, explained, figure, known, share, status_of
-from source_counts import INLINED_HELP, SourceCounts, tell_limits
+from shown import NAMES_HELP, Shown, call_eel, explained, figure, status_of
+from source_counts import INLINED_HELP, tell_limits
 
 LIMIT = 10 ** 11
 MOST_STEPS = 100  # beyond a limit, to stand at a place
-FUNCTIONS, LOOPS, LINES, WIDTH = 20, 5, 10, 60
 TRAPPED = 3  # the status where the program didn't exit
 SECOND = 10 ** 8  # steps that are made in a second, at least
 KEPT = 2  # seconds of a run that was interrupted; it is made again until it stands at a place
@@ -48,93 +50,9 @@ PRINTERS = {'annotate': ('annotate', 'print each instruction with how often it r
             'callgrind': ('source_counts', 'print a profile for callgrind_annotate and KCachegrind'),
             'folded': ('source_counts', 'print stacks of calls with what they cost, for flame graphs'),
             'graph': ('graph', 'print the call graph, or the flow graph of --routine, for dot')}
-
-
-def table(heading, rows):
-    """A table of lines, each with a share, numbers and a text."""
-    yield ''
-    *numbers, text = heading
-    yield f'{"share":>7} {"instructions":>14} {"".join(f"{number:>{width}} " for number, width in numbers)} {text}'
-    for part, count, *told, text in rows:
-        columns = ''.join(f'{number:>{width}} ' for number, (_, width) in zip(told, numbers))
-        yield f'{part:>7} {count:>14} {columns} {text}'
-
-
-class Report:
-    """The functions, loops and lines of a run."""
-
-    def __init__(self, shown, run, debug):
-        self.shown, self.run, self.debug, self.paths = shown, run, debug, set()
-        self.counts = SourceCounts(shown, run, debug)
-        self.unsure = {shown.routine_of(address) for address in run.unsure if run.words[address]}
-
-    def share(self, count):
-        return share(count, self.run.total)
-
-    def functions(self, most):
-        costs = self.counts.costs
-        ranked = sorted(filter(costs.own.get, costs.own), key=lambda start: (-costs.own[start], start or 0))
-        yield from table((('with calls', 11), ('calls', 12), 'function'),
-                         ((self.share(costs.own[start]), figure(costs.own[start], start not in self.unsure),
-                           self.share(costs.inclusive[start]), known(costs.calls_of(start)), self.shown.name_of(start))
-                          for start in ranked[:most]))
-        hidden = ranked[most:] if most else []
-        if hidden:
-            rest = sum(costs.own[start] for start in hidden)
-            told = figure(rest, self.unsure.isdisjoint(hidden))
-            yield f'{self.share(rest):>7} {told:>14} {"":>24}  {len(hidden)} more, which --all prints'
-        if costs.through_pointers():
-            yield f'{self.share(costs.through_pointers()):>7} {costs.through_pointers():>14} {"":>24}  {POINTER_NAME}: called by ' \
-                  'several functions, in whose shares with calls it is not'
-
-    def loop_place(self, loop):
-        line = self.debug.line_at.get(loop.head)
-        source = f', {os.path.basename(line.path)}:{line.number}' if line else ''
-        place = f'at {loop.head:08x}{source}' if loop.head >= 0 else 'from label to label, by jumps through registers'
-        return f'{self.shown.name_of(loop.routine)} {place}'
-
-    def loops(self):
-        found = [loop for loop in loops(self.shown, self.run) if loop.own and loop.rounds][:LOOPS]
-        if found:
-            yield from table((('rounds', 12), 'loop'),
-                             ((self.share(loop.own), figure(loop.own, self.is_sure(loop)), loop.rounds,
-                               self.loop_place(loop)) for loop in found))
-
-    def is_sure(self, loop):
-        return not self.run.unsure or all(self.run.unsure.isdisjoint(self.shown.blocks[first].addresses())
-                                          for first in loop.blocks if first >= 0)
-
-    def lines(self):
-        taken, texts = Counter(), {}
-        for address, count in self.run.words.items():
-            if count and address in self.debug.line_at:
-                taken[self.debug.line_at[address]] += count
-        hottest = sorted(taken, key=lambda line: (-taken[line], line.path, line.number))[:LINES]
-        self.paths = {line.path for line in hottest}
-        for path in filter(os.path.isfile, self.paths):
-            texts[path] = read_lines(path)
-        rows = []
-        for line in hottest:
-            text = ''.join(texts.get(line.path, [])[line.number - 1:line.number]).strip()
-            place, sure = f'{os.path.basename(line.path)}:{line.number}', line not in self.counts.unsure
-            text = text if len(text) <= WIDTH else f'{text[:WIDTH]} ..'
-            rows.append((self.share(taken[line]), figure(taken[line], sure), figure(self.counts.lines.get(line, 0), sure),
-                         f'{place}  {text}'.rstrip()))
-        if rows:
-            yield from table((('times', 12), 'line'), rows)
-        else:
-            yield from ('', 'There are no line tables: compile it with -g to see its lines.')
-
-    def mix(self):
-        counts = InstructionMix(self.shown, self.run).counts()
-        yield from table(('kind',), ((self.share(count), figure(count, not self.run.unsure), kind)
-                                     for kind, count in counts.most_common()))
-
-    def all(self, most):
-        yield from self.functions(most)
-        yield from self.loops()
-        yield from self.lines()
-        yield from self.mix()
+FORMS = {'json': 'write all figures as JSON, as docs/profile.schema.json says; packed where the name ends in .gz; for - in place of '
+                 'the report, to the standard output',
+         'gcov_json': 'write lines, functions and branches as gcov does in JSON; the same'}
 
 
 def watched(words, given, stdout):
@@ -214,14 +132,19 @@ class Session:
             self.checked('edit', self.words.file, self.written, tool, *weights)
 
     def refuse_early(self):
-        """Refuses what no run would change: lines that aren't there, and a routine of another name."""
+        """Refuses what no run would change: lines that aren't there, and functions and sources of other names."""
         self.tables.start()
-        if self.words.printer == 'lcov' and not has_lines(read_file(self.words.file)):
+        wants_lines = self.words.printer == 'lcov' or self.words.gcov_json is not None
+        if wants_lines and not has_lines(read_file(self.words.file)):
             refuse(f'{self.words.file} has no line tables: compile it with -g')
-        if self.words.names or self.words.routine:
+        filters = self.words.filters
+        if self.words.names or self.words.routine or filters.function is not None:
             shown = self.tables.shown()
             if self.words.routine and not re.fullmatch('(0x)?[0-9a-fA-F]+', self.words.routine):
                 shown.routine_called(self.words.routine)
+            filters.want_function(shown, lambda: self.tables.read()[1])
+        if filters.source_file is not None:
+            filters.want_source(*self.tables.read())
 
     def run(self, limit, output):
         """Runs the written file; what the program put out goes on."""
@@ -358,7 +281,10 @@ def parsed():
                       help='the same twice, with counters by what the first run counted: still fewer steps')
     parser.add_argument('--exit-status', action='store_true', help='end with the status of the program, where it exited')
     parser.add_argument('--all', action='store_true', help='print all functions')
+    add_options(parser)
     parser.add_argument('--counts', metavar='FILE', help='keep what was counted, as `eel visits` and `counts` print it')
+    for form, text in FORMS.items():
+        parser.add_argument(f'--{form.replace("_", "-")}', metavar='FILE', help=text)
     printer = parser.add_mutually_exclusive_group()
     for name, (_, text) in PRINTERS.items():
         printer.add_argument(f'--{name}', dest='printer', action='store_const', const=name, help=text)
@@ -369,13 +295,30 @@ def parsed():
     parser.add_argument('--source-root', metavar='FOLDER', action='append',
                         help=f'{ROOT_HELP}; with --annotate their lines are printed, too')
     words = parser.parse_args()
-    if not 0 <= words.limit < 2 ** 64 - MOST_STEPS:
-        parser.error('the limit is out of range')
-    if words.routine and words.printer not in ('annotate', 'graph') or words.code and words.printer != 'graph':
-        parser.error('--routine wants --annotate or --graph, and --code wants --graph')
-    if words.inlined and words.printer != 'callgrind':
-        parser.error('--inlined wants --callgrind')
+    words.filters = Filters.of(words)
+    words.forms = {form: name for form in FORMS if (name := getattr(words, form)) is not None}
+    for misfit in misfits(words):
+        parser.error(misfit)
     return words
+
+
+def misfits(words):
+    """What doesn't fit together of the options."""
+    if not 0 <= words.limit < 2 ** 64 - MOST_STEPS:
+        yield 'the limit is out of range'
+    if words.routine and words.printer not in ('annotate', 'graph') or words.code and words.printer != 'graph':
+        yield '--routine wants --annotate or --graph, and --code wants --graph'
+    if words.inlined and words.printer != 'callgrind':
+        yield '--inlined wants --callgrind'
+    for option in words.filters.options() if words.printer else ():
+        hint = '; --routine names one' if option == '--function' and words.printer in ('annotate', 'graph') else ''
+        yield f'--{words.printer} takes no {option}, which is for the report of functions, loops and lines{hint}'
+    if words.all and words.top:
+        yield '--all and --top exclude each other'
+    if '-' in words.forms.values() and (words.printer or words.filters.options() or len(words.forms) > 1):
+        yield '`-` wants no other option that says what is printed'
+    written = list(filter(None, [words.output, words.counts, *words.forms.values()]))
+    yield from (f'{name} would be written twice' for name in written if written.count(name) > 1)
 
 
 def temporary_folder():
@@ -402,40 +345,57 @@ def main():
         session.refuse_early()
         output = opened_for_output(words.output) if words.output else sys.stderr.fileno() if sys.stderr else subprocess.DEVNULL
         kept = opened_for_output(words.counts) if words.counts else None
+        files = {name: opened_for_output(name) for name in words.forms.values() if name != '-'}
         session.given = program_input(words.input)
         ending = profiled(words, session, tool, output)
         if kept:
-            keep(kept, session.counts)
+            keep(kept, [read_file(session.counts)])
         with said_if_long('the program and its lines are read'):
             (shown, debug), stands = session.tables.read(), place_of(read_file(session.written), ending.pc)
         with said_if_long('what was counted is read'):
             run = run_of(shown, session.counts, stands)
             places = list(place_lines(words, shown, debug, run, ending, stands))
-        if words.printer:
+        with said_if_long('lines and loops are worked out'):
+            told = Report(shown, run, debug, words.filters) if words.forms or not words.printer else None
+        if words.printer or '-' in words.forms.values():
             for line in places or [told_of(ending)]:
                 note(line)
+        write_forms(words, told, ending, stands, files)
+        if words.printer:
             with said_if_long('what is printed is worked out'):
                 lines = printed_by(words, session, shown, debug, run)
             print_lines(lines)
-        else:
-            with said_if_long('lines and loops are worked out'):
-                told = Report(shown, run, debug)
-                lines = list(told.all(None if words.all else FUNCTIONS))
-            report(words, told, ending, places, lines)
+        elif '-' not in words.forms.values():
+            report(words, told, ending, places)
     return status_by(ending, words.exit_status)
 
 
-def keep(kept, counts):
+def keep(kept, pieces, is_compressed=False):
     """Writes what was counted to a file of the caller's."""
     try:
-        with kept:
-            kept.write(read_file(counts))
+        with kept, gzip.GzipFile('', 'wb', fileobj=kept, mtime=0) if is_compressed else nullcontext(kept) as out:
+            out.writelines(pieces)
     except OSError as error:
         refuse(f'{kept.name}: {why(error)}', DEVICE)
 
 
-def report(words, told, ending, places, lines):
+def write_forms(words, told, ending, stands, files):
+    """Writes the forms in JSON that were asked for, to files or to the standard output."""
+    counted = 'weights' if words.weights else 'edges' if words.edges else 'every'
+    for form, name in words.forms.items():
+        made = ProfileJson(told, words.args, counted, ending, stands) if form == 'json' else GcovJson(told.counts)
+        with said_if_long('JSON is written'):
+            if name == '-':
+                print_lines(made.lines())
+                tell_limits(told.counts, words.file, [])
+            else:
+                keep(files[name], (f'{line}\n'.encode() for line in made.lines()), name.endswith('.gz'))
+
+
+def report(words, told, ending, places):
     """Prints functions, loops and lines."""
+    with said_if_long('lines and loops are worked out'):
+        lines = list(told.all(None if words.all else FUNCTIONS))
     total = figure(told.run.total, not told.run.unsure)
     heading = f'{os.path.basename(words.file)}: {told_of(ending)}, {total} instructions; with counters {ending.steps} steps'
     print_lines([heading, *places, *lines])

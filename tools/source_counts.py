@@ -29,6 +29,8 @@ class Called:
     line: object
     calls: int
     is_known: bool = True  # else so often its first instruction ran
+    symbol: str = ''  # if that is another name
+    column: int = 0
 
 
 class SourceCounts:
@@ -39,7 +41,7 @@ class SourceCounts:
         self.costs = CallCosts(shown, run)
         self.functions = self.called()
         counted = LineCounts(shown, run, debug)
-        self.lines, self.unsure = self.reached(counted.lines), counted.unsure
+        self.lines, self.unsure = reached(counted.lines, debug, run), counted.unsure
 
     def times(self, address):
         return self.run.words.get(address, 0)
@@ -58,28 +60,17 @@ class SourceCounts:
         return copies + sum(self.times(start) if count is None else count for start, count in zip(function.starts, calls))
 
     def called(self):
-        """The functions of the debug information, and the routines that it doesn't know."""
-        functions = [Called(function.name, function.line, self.calls(function))
+        """The functions of the debug information, and the routines that it doesn't know, which stand alone."""
+        functions = [Called(function.name, function.line, self.calls(function), symbol=function.symbol, column=function.column)
                      for function in self.debug.functions.values()]
         known = {start for function in self.debug.functions.values() for start in function.starts}
         code = self.shown.code()
-        return functions + [self.routine(start) for start in self.shown.starts
-                            if start not in known and self.shown.block_of(start).first in code]
+        self.alone = [start for start in self.shown.starts if start not in known and self.shown.block_of(start).first in code]
+        return functions + list(map(self.routine, self.alone))
 
     def routine(self, start):
         calls, line = self.costs.calls_of(start), self.debug.line_at.get(start)
         return Called(self.shown.name_of(start), line, self.times(start) if calls is None else calls, calls is not None)
-
-    def reached(self, lines):
-        """All lines; where a function's code has none of the line that names it, that one is reached by its calls."""
-        body_at, line_at = self.debug.body_at, self.debug.line_at
-        known = {(line, body_at.get(address)) for address, line in line_at.items()}
-        known |= {(row.line, body_at.get(row.address)) for row in self.debug.marks}
-        for function in self.debug.functions.values():
-            for entered in function.starts + [copy.entry for copy in function.copies if copy.is_said]:
-                if (function.line, body_at.get(entered)) not in known:
-                    lines[function.line] = lines.get(function.line, 0) + self.times(entered)
-        return lines
 
     def sources(self):
         """The counts of each source, by numbers of lines."""
@@ -87,6 +78,17 @@ class SourceCounts:
         for line, count in sorted(self.lines.items(), key=lambda item: (item[0].path, item[0].number)):
             sources[line.path][line.number] = count
         return sources
+
+
+def reached(lines, debug, run):
+    """All lines; where a function's code has none of the line that names it, that one is reached by its calls."""
+    known = {(line, debug.body_at.get(address)) for address, line in debug.line_at.items()}
+    known |= {(row.line, debug.body_at.get(row.address)) for row in debug.marks}
+    for function in debug.functions.values():
+        for entered in function.starts + [copy.entry for copy in function.copies if copy.is_said]:
+            if (function.line, debug.body_at.get(entered)) not in known:
+                lines[function.line] = lines.get(function.line, 0) + run.words.get(entered, 0)
+    return lines
 
 
 def is_newer(path, program):
@@ -119,9 +121,9 @@ def function_lines(counts):
         yield f'{calls:>9}: function {function.name}'
 
 
-def branches(counts):
-    """The branches with a condition and the known switches, by line: how often each way was gone, where that is known."""
-    found = defaultdict(list)
+def branch_ways(counts):
+    """The branches with a condition and the known switches, each with its line and how often each way was gone, by its kind
+    or its case, where that is known."""
     for block in counts.shown.blocks.values():
         line = counts.debug.line_at.get(block.last())
         ways = Counter()
@@ -131,8 +133,7 @@ def branches(counts):
         if is_switch:
             del ways['out']  # of its landed copy
         if line and (is_switch or {'taken', 'untaken'} <= ways.keys()) and all(map(counts.run.is_known, block.out)):
-            found[line].append(list(ways.values()))
-    return found
+            yield line, ways
 
 
 def lcov_functions(functions):
@@ -155,7 +156,9 @@ def lcov_branches(found, path):
 
 def lcov_lines(counts):
     """A record of each source, as `geninfo` of lcov writes them."""
-    found = branches(counts)
+    found = defaultdict(list)
+    for line, ways in branch_ways(counts):
+        found[line].append(list(ways.values()))
     yield 'TN:'
     for path, counted in counts.sources().items():
         yield f'SF:{path}'
