@@ -158,7 +158,9 @@ class Document:
         if not paths:
             self.bad.append((number, script, 'no such script'))
             return
-        known = {'help'}.union(*(re.findall(r"(?<=')(?:--)?([a-z-]+)(?=')", read(path)) for path in paths))
+        modules = {f'{os.path.dirname(path)}/{name}.py' for path in paths for name in re.findall(r'^from (\w+) import', read(path), re.M)}
+        texts = map(read, {*paths, *(modules & set(self.repository.files))})
+        known = {'help'}.union(*(re.findall(r"(?<=')(?:--)?([a-z-]+)(?=')", text) for text in texts))
         for option in re.findall(r'(?<=\s)--([a-z-]+)', rest):
             if option not in known:
                 self.bad.append((number, f'{script} --{option}', 'no such option'))
