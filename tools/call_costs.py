@@ -57,10 +57,11 @@ class CallCosts:
     def __init__(self, shown, run):
         self.shown, self.run = shown, run
         self.own = Counter()
-        for block in shown.blocks.values():
-            for start, addresses in shown.parts_of(block) if run.words else ():
-                if own := sum(map(run.words.get, addresses)):
-                    self.own[start] += own
+        for block in shown.blocks.values() if run.words else ():
+            if any(map(run.words.get, block.addresses())):
+                for start, addresses in shown.parts_of(block):
+                    if own := sum(map(run.words.get, addresses)):
+                        self.own[start] += own
         self.landed, self.sites, within = self.through_registers()
         self.calls = [Call(*site, count) for site, count in self.find().items()]
         self.entered = Counter(self.landed)

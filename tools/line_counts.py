@@ -1,4 +1,5 @@
 """How often a run reached each line of a program's sources."""
+import bisect
 from collections import defaultdict
 
 from shown import NOP, is_transfer
@@ -88,10 +89,9 @@ class LineCounts:
 
     def passes_of(self, routine):
         if routine not in self.passes:
-            low = self.shown.starts.index(routine) if routine is not None else -1
             start = routine or 0
-            end = self.shown.starts[low + 1] if low + 1 < len(self.shown.starts) else 1 << 32
-            self.passes[routine] = Passes(self.shown, self.shown.blocks_between(start, end))
+            behind = self.shown.starts[bisect.bisect(self.shown.starts, start):][:1] or [1 << 32]
+            self.passes[routine] = Passes(self.shown, self.shown.blocks_between(start, *behind))
         return self.passes[routine]
 
     def executed(self):

@@ -86,7 +86,7 @@ def costs_of(shown, run):
     """The instructions of each block, with those in its delay slot."""
     costs = defaultdict(int)
     for first, block in shown.blocks.items():
-        costs[first] = sum(run.words[address] for address in block.addresses())
+        costs[first] = sum(map(run.words.__getitem__, block.addresses()))
     for edge, count in completed(shown, run):
         if edge.slot is not None and edge.source is not None:
             costs[edge.source] += count

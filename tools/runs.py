@@ -195,17 +195,17 @@ class Visits(Run):
         self.shown = shown
         self.words = dict.fromkeys((address for block in shown.blocks.values() for address in block.addresses()), 0)
         self.words.update(visits)
+        self.starts, self.total = 1, sum(visits.values())
+        self.find_ways(shown)
+        completed, self.edges = {way: count for way, count in self.ways.items() if count}, {}
+        for edge in shown.edges:
+            if count := completed.pop(edge.way(), 0):
+                self.edges[edge.number] = count
+
+    def find_ways(self, shown):
         self.blocks = {first: self.words[first] for first in shown.blocks}
         for first in filter(lambda first: is_unimplemented(shown.word(first)), shown.blocks):
             self.blocks[first] = self.words.get(first + 4, 0)
-        self.starts, self.total = 1, sum(visits.values())
-        self.find_ways(shown)
-        first_of = {}
-        for edge in shown.edges:
-            first_of.setdefault(edge.way(), edge.number)
-        self.edges = {first_of[way]: count for way, count in self.ways.items() if count and way in first_of}
-
-    def find_ways(self, shown):
         self.ways = solutions(list(self.equations(shown)))
 
     def equations(self, shown):

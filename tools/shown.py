@@ -73,7 +73,7 @@ def demangled(names):
     return lines if len(lines) == len(names) else names
 
 
-@dataclass
+@dataclass(slots=True)
 class Block:
     """A basic block: the address of its first word, how many words it has, and the edges into it and out of it."""
     first: int

@@ -7,6 +7,7 @@ gets its functions alone. By visits, calls and branches are worked out from how 
 """
 from scripting import Parser, note, print_lines, read_lines, refuse, script
 
+import functools
 import os
 from collections import Counter, defaultdict
 from dataclasses import dataclass
@@ -39,7 +40,6 @@ class SourceCounts:
     def __init__(self, shown, run, debug):
         self.shown, self.debug, self.run = shown, debug, run
         self.costs = CallCosts(shown, run)
-        self.functions = self.called()
         counted = LineCounts(shown, run, debug)
         self.lines, self.unsure = reached(counted.lines, debug, run), counted.unsure
 
@@ -59,14 +59,19 @@ class SourceCounts:
         calls = (self.costs.calls_of(start) if start in self.shown.routines else None for start in function.starts)
         return copies + sum(self.times(start) if count is None else count for start, count in zip(function.starts, calls))
 
-    def called(self):
+    @functools.cached_property
+    def functions(self):
         """The functions of the debug information, and the routines that it doesn't know, which stand alone."""
         functions = [Called(function.name, function.line, self.calls(function), symbol=function.symbol, column=function.column)
                      for function in self.debug.functions.values()]
+        return functions + list(map(self.routine, self.alone))
+
+    @functools.cached_property
+    def alone(self):
+        """The routines that the debug information doesn't know."""
         known = {start for function in self.debug.functions.values() for start in function.starts}
         code = self.shown.code()
-        self.alone = [start for start in self.shown.starts if start not in known and self.shown.block_of(start).first in code]
-        return functions + list(map(self.routine, self.alone))
+        return [start for start in self.shown.starts if start not in known and self.shown.block_of(start).first in code]
 
     def routine(self, start):
         calls, line = self.costs.calls_of(start), self.debug.line_at.get(start)
@@ -82,8 +87,9 @@ class SourceCounts:
 
 def reached(lines, debug, run):
     """All lines; where a function's code has none of the line that names it, that one is reached by its calls."""
-    known = {(line, debug.body_at.get(address)) for address, line in debug.line_at.items()}
-    known |= {(row.line, debug.body_at.get(row.address)) for row in debug.marks}
+    named = {function.line for function in debug.functions.values()}
+    known = {(line, debug.body_at.get(address)) for address, line in debug.line_at.items() if line in named}
+    known |= {(row.line, debug.body_at.get(row.address)) for row in debug.marks if row.line in named}
     for function in debug.functions.values():
         for entered in function.starts + [copy.entry for copy in function.copies if copy.is_said]:
             if (function.line, debug.body_at.get(entered)) not in known:
