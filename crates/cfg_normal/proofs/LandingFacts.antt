@@ -1,8 +1,8 @@
 -- What is kept of a block says what the open switches do.
 use Rattle.cfg_normal.proofs.Common.{◌≡◌, ℕ, zero, suc, ◌+◌, ◌<◌, ◌≤◌, Bool, true, false, ◌||◌, List, [], ◌∷◌, ◌++◌, length, refl, ap, sym, ◌∙◌, arith, cond, inl, inr, subst, get_or, Some, None, Option, ◌==◌, ◌&&◌, not, nat_lt, All, list_any, append-nil, get_or_append_left, get_or_push, length_push, list_any-append, list_any_at, or-false, ne_eqb, or_parts, cases_Bool, eq-eqb, eqb-true, or_left, Words, word_at, EdgeKind, Switch, Blocks, holding_of, Entered, marked, any_below_same, list_any-map, Node, Block, Landed, X, same_kind, directed, is_compared, AreTabled, AreTargetsIn, IsJumpOf, has_copy, is_from, is_jump_block, lands_by, noted, with_compare, IsLanding, AreOne, AreOpenIn, Open, compares_in, is_behind, is_closed, is_copied, is_tabled, jump_number, jumps_in, meets_any, is_some, position, targets_in, words_from, nat_tests}
 use Rattle.eel_base.specs.declared.numbers.BlockNo.{BlockNo}
-use Rattle.cfg_normal.specs.declared.landings.Landing.{Landing}
-use Rattle.cfg_normal.specs.declared.landings.Landing.TheVariants.{Home, Behind, Copied}
+use Rattle.cfg_normal.specs.declared.landings.LandingRule.{LandingRule}
+use Rattle.cfg_normal.specs.declared.landings.LandingRule.TheVariants.{Home, Behind, Copied}
 use Rattle.cfg_normal.proofs.TableWords.{table_is}
 
 -- a number in the list of them, with its block
@@ -12,19 +12,19 @@ jumps_at [] block k l at = absurd (omega arith)
 jumps_at (o ∷ opens) block k l at =
     list_any_at (λ (o : Open). o.block == block) (o ∷ opens) k o l (eq-eqb (get_or (o ∷ opens) k o).block block (at o))
 
-pub jumps_by : (opens : List Open) (block : ℕ) (landing : Landing) → IsLanding opens block landing
+pub jumps_by : (opens : List Open) (block : ℕ) (landing : LandingRule) → IsLanding opens block landing
     → is_jump_block landing ≡ jumps_in opens block
 jumps_by opens block Home is = sym is.0
 jumps_by opens block (Behind compare) is = sym is.0
 jumps_by opens block (Copied k) is = sym (jumps_at opens block k is.0 is.1)
 
-pub lands_as : (opens : List Open) (block word : ℕ) (landing : Landing) → IsLanding opens block landing
+pub lands_as : (opens : List Open) (block word : ℕ) (landing : LandingRule) → IsLanding opens block landing
     → lands_by landing word ≡ (jumps_in opens block || is_behind opens block word)
 lands_as opens block word Home is = rw is.0 (sym (is.2 word))
 lands_as opens block word (Behind compare) is = rw is.0 (sym (is.2 word))
 lands_as opens block word (Copied k) is = rw (jumps_at opens block k is.0 is.1) refl
 
-pub copied_as : (opens : List Open) (block : ℕ) (landing : Landing) → IsLanding opens block landing
+pub copied_as : (opens : List Open) (block : ℕ) (landing : LandingRule) → IsLanding opens block landing
     → has_copy landing ≡ is_copied opens block
 copied_as opens block Home is = rw (is.0, is.1) refl
 copied_as opens block (Behind compare) is = rw (is.0, is.1) refl
@@ -46,11 +46,11 @@ pub jump_found : (opens : List Open) (block : ℕ) (found : Option ℕ) → foun
     → is_some found ≡ jumps_in opens block
 jump_found opens block found is = ap is_some is ∙ some_is_any (λ (o : Open). o.block == block) opens
 
-pub no_number : (opens : List Open) (block : ℕ) (landing : Landing) → IsLanding opens block landing
+pub no_number : (opens : List Open) (block : ℕ) (landing : LandingRule) → IsLanding opens block landing
     → ((k : ℕ) → landing ≡ Copied k → ⊥) → None ≡ jump_number opens block
 no_number opens block landing is other = none opens (unjumped landing is other)
   where
-    unjumped : (landing : Landing) → IsLanding opens block landing → ((k : ℕ) → landing ≡ Copied k → ⊥)
+    unjumped : (landing : LandingRule) → IsLanding opens block landing → ((k : ℕ) → landing ≡ Copied k → ⊥)
         → jumps_in opens block ≡ false
     unjumped Home is other = is.0
     unjumped (Behind compare) is other = is.0
@@ -152,7 +152,7 @@ module _ (opens : List Open) (o : Open) (block : ℕ) where
   more = opens ++ o ∷ []
 
   -- neither of its blocks is this one
-  kept_apart : (landing : Landing) → (o.block == block) ≡ false → (o.switch.compare.0 == block) ≡ false
+  kept_apart : (landing : LandingRule) → (o.block == block) ≡ false → (o.switch.compare.0 == block) ≡ false
       → IsLanding opens block landing → IsLanding more block landing
   kept_apart Home j c is = (
     simp (list_any-append, is.0, j),
@@ -167,7 +167,7 @@ module _ (opens : List Open) (o : Open) (block : ℕ) where
   kept_apart (Copied k) j c is =
       (omega (arith, is.0, length_push opens o), λ d. rw (get_or_append_left opens (o ∷ []) d k is.0) (is.1 d))
 
-  compared : (landing : Landing) → (o.block == block) ≡ false → (o.switch.compare.0 == block) ≡ true
+  compared : (landing : LandingRule) → (o.block == block) ≡ false → (o.switch.compare.0 == block) ≡ true
       → IsLanding opens block landing → IsLanding more block (with_compare landing o.approach.compare.word)
   compared Home j c is = (
     simp (list_any-append, is.0, j),
@@ -188,7 +188,7 @@ module _ (opens : List Open) (o : Open) (block : ℕ) where
   compared (Copied k) j c is =
       (omega (arith, is.0, length_push opens o), λ d. rw (get_or_append_left opens (o ∷ []) d k is.0) (is.1 d))
 
-  pub noted_is : (number : ℕ) (landing : Landing) → length opens ≡ number → IsLanding opens block landing
+  pub noted_is : (number : ℕ) (landing : LandingRule) → length opens ≡ number → IsLanding opens block landing
       → IsLanding more block (noted o number block landing)
   noted_is number landing n is = elim (cases_Bool (o.block == block)) [
     | inl j ↦ rw j (
@@ -203,14 +203,14 @@ module _ (opens : List Open) (o : Open) (block : ℕ) where
 
 -- ---- which switches are closed
 
-pub closed_jumps : (text : Words) (list : Entered) (opens : List Open) (switch : Switch) (block : ℕ) (landing : Landing)
+pub closed_jumps : (text : Words) (list : Entered) (opens : List Open) (switch : Switch) (block : ℕ) (landing : LandingRule)
     → block ≡ holding_of list.blocks switch.jump.0 → IsLanding opens block landing → is_jump_block landing ≡ true
     → true ≡ is_closed text list opens switch
 closed_jumps text list opens switch block landing at is jumps =
     sym (or_left (jumps_in opens (holding_of list.blocks switch.jump.0)) (meets_any text opens switch)
     (rw (← at) (sym (jumps_by opens block landing is) ∙ jumps)))
 
-pub closed_meets : (text : Words) (list : Entered) (opens : List Open) (switch : Switch) (block : ℕ) (landing : Landing)
+pub closed_meets : (text : Words) (list : Entered) (opens : List Open) (switch : Switch) (block : ℕ) (landing : LandingRule)
     (marks : List Bool) (from : ℕ) → block ≡ holding_of list.blocks switch.jump.0 → IsLanding opens block landing
     → is_jump_block landing ≡ false → AreTabled text opens marks → word_at text switch.table.0 ≡ Some from
     → from + switch.count ≤ length text.words

@@ -3,21 +3,21 @@ use Rattle.std.specs.Prelude.{◌≡◌, ℕ, ◌-◌, ◌<◌, true, false, nat
 use Rattle.cfg_blocks.specs.Blocks.{Blocks}
 use Rattle.cfg_normal.specs.declared.Node.{Node}
 use Rattle.cfg_normal.specs.declared.Node.TheVariants.{Block, Landed, X}
-use Rattle.cfg_normal.specs.declared.landings.Landing.{Landing}
-use Rattle.cfg_normal.specs.declared.landings.Landing.TheVariants.{Home, Behind, Copied}
+use Rattle.cfg_normal.specs.declared.landings.LandingRule.{LandingRule}
+use Rattle.cfg_normal.specs.declared.landings.LandingRule.TheVariants.{Home, Behind, Copied}
 use Rattle.cfg_normal.specs.Opens.{Open, compares_in, is_behind, jumps_in}
 use Rattle.cfg_normal.specs.Code.{AreOpenIn, IsGraph, landing_count}
 use Rattle.cfg_normal.specs.Graph.{Graph}
 
 -- what open switches say of a block
-abbrev pub IsLanding : List Open → ℕ → Landing → Type 0
+abbrev pub IsLanding : List Open → ℕ → LandingRule → Type 0
 IsLanding opens block Home = (jumps_in opens block ≡ false) × (compares_in opens block ≡ false)
     × ((word : ℕ) → is_behind opens block word ≡ false)
 IsLanding opens block (Behind compare) = (jumps_in opens block ≡ false) × (compares_in opens block ≡ true)
     × ((word : ℕ) → is_behind opens block word ≡ nat_lt compare word)
 IsLanding opens block (Copied k) = (k < length opens) × ((d : Open) → (slice_index_or opens k d).block ≡ block)
 
-pub record AreLandings (count : ℕ) (opens : List Open) (landings : List Landing) : Type 0 where
+pub record AreLandings (count : ℕ) (opens : List Open) (landings : List LandingRule) : Type 0 where
   pub long : length landings ≡ count
   pub each : (block : ℕ) → block < count → IsLanding opens block (slice_index_or landings block Home)
 
@@ -27,7 +27,7 @@ pub record NodeList : Type 0 where
   pub opens : List Open
 
 -- what is known of them, and of what is kept of each block
-pub record AreNodes (nodes : NodeList) (kept : List Landing) : Type 0 where
+pub record AreNodes (nodes : NodeList) (kept : List LandingRule) : Type 0 where
   pub opens : AreOpenIn nodes.blocks nodes.opens
   pub landings : AreLandings (length nodes.blocks.firsts) nodes.opens kept
 

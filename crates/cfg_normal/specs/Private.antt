@@ -6,8 +6,8 @@ use Rattle.eel_base.specs.declared.numbers.WordNo.{WordNo}
 use Rattle.cfg_blocks.specs.Blocks.{Blocks}
 use Rattle.cfg_blocks.specs.declared.EdgeKind.{EdgeKind}
 use Rattle.cfg_blocks.specs.Private.{marked}
-use Rattle.cfg_normal.specs.declared.landings.Landing.{Landing}
-use Rattle.cfg_normal.specs.declared.landings.Landing.TheVariants.{Home, Behind, Copied}
+use Rattle.cfg_normal.specs.declared.landings.LandingRule.{LandingRule}
+use Rattle.cfg_normal.specs.declared.landings.LandingRule.TheVariants.{Home, Behind, Copied}
 use Rattle.cfg_normal.specs.Opens.{Open, jumps_in, targets_in, is_tabled}
 use Rattle.cfg_normal.specs.declared.Node.{Node}
 use Rattle.cfg_normal.specs.declared.Node.TheVariants.{Block, Landed, X}
@@ -16,27 +16,27 @@ use Rattle.cfg_normal.specs.declared.Edge.{Edge}
 use Rattle.cfg_normal.specs.Graph.{case_of, lands_of, once_onto}
 
 -- a word lands at the copy
-abbrev pub lands_by : Landing → ℕ → Bool
+abbrev pub lands_by : LandingRule → ℕ → Bool
 lands_by Home word = false
 lands_by (Behind compare) word = nat_lt compare word
 lands_by (Copied k) word = true
 
 -- a jump of an open switch ends the block
-abbrev pub is_jump_block : Landing → Bool
+abbrev pub is_jump_block : LandingRule → Bool
 is_jump_block (Copied k) = true
 is_jump_block _ = false
 
-abbrev pub has_copy : Landing → Bool
+abbrev pub has_copy : LandingRule → Bool
 has_copy Home = false
 has_copy _ = true
 
 -- what is kept of a block, with one open switch more, the one of this number
-abbrev pub with_compare : Landing → ℕ → Landing
+abbrev pub with_compare : LandingRule → ℕ → LandingRule
 with_compare Home compare = Behind compare
 with_compare (Behind other) compare = if nat_lt compare other then Behind compare else Behind other
 with_compare (Copied k) compare = Copied k
 
-abbrev pub noted : Open → ℕ → ℕ → Landing → Landing
+abbrev pub noted : Open → ℕ → ℕ → LandingRule → LandingRule
 noted o number block landing =
     if o.block == block then Copied number else
     if o.switch.compare.0 == block then with_compare landing o.approach.compare.word else landing

@@ -3,7 +3,7 @@ ghost use Rattle.std.specs.Prelude.{◌≡◌, ℕ, ◌<◌, ◌++◌, [], ◌�
 ghost use Rattle.cfg_normal.specs.Private.{has_copy, is_jump_block, lands_by, noted, with_compare};
 ghost use Rattle.cfg_normal.specs.Landings.{AreLandings};
 ghost use Rattle.cfg_normal.specs.Opens.{Open};
-ghost use Rattle.cfg_normal.specs.declared.landings.Landing.TheVariants.{Home};
+ghost use Rattle.cfg_normal.specs.declared.landings.LandingRule.TheVariants.{Home};
 
 use crate::OpenSwitch;
 use eel_base::BlockNo;
@@ -11,14 +11,14 @@ use eel_base::BlockNo;
 /// Which words of a block land at its landed copy: none, those behind a comparison, or all, since the jump of the
 /// open switch of this number ends it.
 #[derive(Clone, Copy, Drop)]
-pub(crate) enum Landing {
+pub(crate) enum LandingRule {
     Home,
     Behind(u32),
     Copied(usize),
 }
 
 /// What is kept of a block.
-pub(crate) fn landing_of(landings: &[Landing], block: BlockNo) -> Landing
+pub(crate) fn landing_of(landings: &[LandingRule], block: BlockNo) -> LandingRule
     requires { block.0 < length landings.now }
     ensures { result ≡ slice_index_or landings.now block.0 Home }
 {
@@ -26,49 +26,49 @@ pub(crate) fn landing_of(landings: &[Landing], block: BlockNo) -> Landing
 }
 
 /// Whether a word of the block lands at the copy.
-pub(crate) fn lands_there(landing: Landing, word: u32) -> bool
+pub(crate) fn lands_there(landing: LandingRule, word: u32) -> bool
     ensures { result ≡ lands_by landing word }
 {
     match landing {
-        Landing::Home => false,
-        Landing::Behind(compare) => compare < word,
-        Landing::Copied(_) => true,
+        LandingRule::Home => false,
+        LandingRule::Behind(compare) => compare < word,
+        LandingRule::Copied(_) => true,
     }
 }
 
 /// Whether the jump of an open switch ends the block.
-pub(crate) fn is_jump_block(landing: Landing) -> bool
+pub(crate) fn is_jump_block(landing: LandingRule) -> bool
     ensures { result ≡ is_jump_block landing }
 {
-    matches!(landing, Landing::Copied(_))
+    matches!(landing, LandingRule::Copied(_))
 }
 
 /// Whether the block has a landed copy.
-pub(crate) fn has_copy(landing: Landing) -> bool
+pub(crate) fn has_copy(landing: LandingRule) -> bool
     ensures { result ≡ has_copy landing }
 {
-    !matches!(landing, Landing::Home)
+    !matches!(landing, LandingRule::Home)
 }
 
 // With a comparison more.
-fn with_compare(landing: Landing, compare: u32) -> Landing
+fn with_compare(landing: LandingRule, compare: u32) -> LandingRule
     ensures { result ≡ with_compare landing compare }
 {
     match landing {
-        Landing::Home => Landing::Behind(compare),
-        Landing::Behind(other) => {
+        LandingRule::Home => LandingRule::Behind(compare),
+        LandingRule::Behind(other) => {
             if compare < other {
-                Landing::Behind(compare)
+                LandingRule::Behind(compare)
             } else {
-                Landing::Behind(other)
+                LandingRule::Behind(other)
             }
         }
-        Landing::Copied(_) => landing,
+        LandingRule::Copied(_) => landing,
     }
 }
 
 // Notes the blocks of an open switch, the one of this number.
-fn put_landings(landings: &mut [Landing], number: usize, found: &OpenSwitch)
+fn put_landings(landings: &mut [LandingRule], number: usize, found: &OpenSwitch)
     requires block { found.now.block < length landings.old }
     requires compare { found.now.switch.compare.0 < length landings.old }
     ensures long { length landings.new ≡ length landings.old }
@@ -77,11 +77,11 @@ fn put_landings(landings: &mut [Landing], number: usize, found: &OpenSwitch)
 {
     let from = found.switch().compare.0 as usize;
     landings[from] = with_compare(landings[from], found.approach().compare.word);
-    landings[found.block().0 as usize] = Landing::Copied(number);
+    landings[found.block().0 as usize] = LandingRule::Copied(number);
 }
 
 /// Notes the blocks of an open switch that comes after so many.
-pub(crate) fn note_landings(landings: &mut [Landing], number: usize, found: &OpenSwitch)
+pub(crate) fn note_landings(landings: &mut [LandingRule], number: usize, found: &OpenSwitch)
     requires block { found.now.block < length landings.old }
     requires compare { found.now.switch.compare.0 < length landings.old }
     ensures { (opens : List Open) → length opens ≡ number → AreLandings (length landings.old) opens landings.old

@@ -9,7 +9,7 @@ ghost use Rattle.cfg_normal.specs.Opens.{is_copied, jumps_in, opens_of, Open};
 ghost use Rattle.cfg_normal.specs.Code.{AreOpenIn, IsTableIn, jump_number};
 ghost use Rattle.cfg_normal.specs.declared.Node.TheVariants.{Block};
 
-use crate::landings::{Landing, has_copy, landing_of, lands_there};
+use crate::landings::{LandingRule, has_copy, landing_of, lands_there};
 use crate::opening::open_switches;
 use crate::{Node, OpenSwitch};
 use cfg_blocks::{BlockList, EdgeKind, Switch};
@@ -22,7 +22,7 @@ use std::marker::Model;
 pub(crate) struct Nodes {
     pub(crate) blocks: BlockList,
     pub(crate) opens: Vec<OpenSwitch>,
-    landings: Vec<Landing>,
+    landings: Vec<LandingRule>,
 }
 
 impl Model for Nodes {
@@ -61,7 +61,7 @@ pub(crate) fn nodes_of(
 
 impl Nodes {
     // What is kept of a block.
-    fn landing(&self, block: BlockNo) -> Landing
+    fn landing(&self, block: BlockNo) -> LandingRule
         requires { block.0 < length self.now.blocks.firsts }
         ensures landing { IsLanding self.now.opens block.0 result }
         ensures opens { AreOpenIn self.now.blocks self.now.opens }
@@ -99,7 +99,7 @@ impl Nodes {
         ensures opens { AreOpenIn self.now.blocks self.now.opens }
     {
         match self.landing(block) {
-            Landing::Copied(number) => Some(number),
+            LandingRule::Copied(number) => Some(number),
             _ => None,
         }
     }

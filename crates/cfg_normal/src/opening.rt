@@ -9,7 +9,7 @@ ghost use Rattle.cfg_normal.specs.Opens.{is_closed, opens_of, with_switch, Open}
 ghost use Rattle.cfg_normal.specs.Code.{IsTableIn};
 
 use crate::OpenSwitch;
-use crate::landings::{Landing, is_jump_block, landing_of, note_landings};
+use crate::landings::{LandingRule, is_jump_block, landing_of, note_landings};
 use crate::opens::candidate;
 use crate::tables::{any_marked, mark_table, table_start};
 use cfg_blocks::{BlockList, Switch};
@@ -20,7 +20,7 @@ use std::alloc::Global;
 fn is_closed(
     text: &Text,
     blocks: &BlockList,
-    landings: &[Landing],
+    landings: &[LandingRule],
     tabled: &[bool],
     block: BlockNo,
     switch: Switch,
@@ -53,7 +53,7 @@ fn add_switch(
     text: &Text,
     blocks: &BlockList,
     opens: &mut Vec<OpenSwitch>,
-    landings: &mut [Landing],
+    landings: &mut [LandingRule],
     tabled: &mut [bool],
     switch: Switch,
 ) -> Result<(), NoMemory>
@@ -85,14 +85,14 @@ pub(crate) fn open_switches(
     text: &Text,
     blocks: &BlockList,
     switches: &[Switch],
-) -> Result<(Vec<OpenSwitch>, Vec<Landing>), NoMemory>
+) -> Result<(Vec<OpenSwitch>, Vec<LandingRule>), NoMemory>
     requires made { blocks.now.blocks.words ≡ length text.now.words }
     requires tables { All (IsTableIn text.now) switches.now }
     ensures opens { IfOk result (λ r. r.0.items ≡ opens_of text.now blocks.now switches.now) }
     ensures landings { IfOk result (λ r. AreLandings (length blocks.now.blocks.firsts) r.0.items r.1.items) }
 {
     let mut opens = Vec::new(alloc);
-    let mut landings = vec![in alloc; Landing::Home; blocks.count() as usize]?;
+    let mut landings = vec![in alloc; LandingRule::Home; blocks.count() as usize]?;
     let mut tabled = vec![in alloc; false; text.len() as usize]?;
     for switch in switches {
         add_switch(

@@ -2,7 +2,7 @@
 use Rattle.edit_core.proofs.Common.{◌≡◌, ℕ, zero, suc, ◌+◌, ◌&&◌, not, ◌≤◌, ◌⊎◌, inl, inr, cases_Bool, false≢true, true, false, List, [], ◌∷◌, ◌++◌, length, map, Some, None, refl, ap, sym, ◌∙◌, arith, append-nil, list_any, and_parts, or_parts, nat_tests, map-append, map-map, Notes, ProgramHeader, loadable, program_headers, mapping_of, mappings, kept, region_of, Span, IsApart, IsApartFromAll, AllApart, State, AreBytes, run, run_puts, puts_nothing, stays_ended, pages_of, own_trail, trail_of, IsUntouched, AreArguments, program_name, stack_region, start_memory, start_of, Plan, append_assoc, has_memory_outside_a_run, is_last_page, leaves_room, load_fault, loadable_file, are_apart, heap_span, is_apart, is_apart_from, span_of, span_of_mapping, page_of, lived_to, HasPages, IsFaithful, IsMatched, note_of, EditsAreUntouched, EditsCrashAlike, EditsDoTheSame, GrantedRunsAreAlike}
 use Rattle.v8_step.specs.declared.Ending.TheVariants.{Exit}
 use Rattle.two_runs.specs.Needed.{instr_at, judged_in}
-use Rattle.two_runs.specs.Refused.{HasBuffers, IsFaulted, IsGranted, IsRefused, above_first_page, is_refusal}
+use Rattle.two_runs.specs.Refused.{NoBufferRefused, IsFaulted, IsGranted, IsRefused, above_first_page, is_refusal}
 use Rattle.two_runs.specs.Code.{IsUnmapped}
 use Rattle.two_runs.proofs.Unmapped.{after_run, granted_is_untouched, judges, refusal_stays, unmapped_is_untouched}
 use Rattle.v8_process.proofs.Loading.{mapped_apart}
@@ -109,7 +109,7 @@ shown e entry s0 t0 n h = elim (over_or_not (run s0 n).ending) [
 ]
 
 -- a run that has ended by `exit` is granted its accesses
-pub exit_granted : (s0 : State) (n status : ℕ) → HasBuffers s0 n → (run s0 n).ending ≡ Some (Exit status)
+pub exit_granted : (s0 : State) (n status : ℕ) → NoBufferRefused s0 n → (run s0 n).ending ≡ Some (Exit status)
     → IsGranted s0 n
 exit_granted s0 n status buffers over =
     let last : (run s0 (suc n)).ending ≡ Some (Exit status) =
@@ -117,7 +117,7 @@ exit_granted s0 n status buffers over =
     record { accesses = ap is_refusal over; fetch = λ trapped. absurd (cc); buffers = buffers }
 
 -- what isn't refused by step n + 1 is granted by step n
-granted_before : (s0 : State) (n : ℕ) → HasBuffers s0 (suc n) → is_refusal (run s0 (suc n)).ending ≡ false
+granted_before : (s0 : State) (n : ℕ) → NoBufferRefused s0 (suc n) → is_refusal (run s0 (suc n)).ending ≡ false
     → IsGranted s0 n
 granted_before s0 n buffers fine = record {
   accesses = elim (cases_Bool (is_refusal (run s0 n).ending)) [
@@ -169,7 +169,7 @@ module _ (original : List ℕ) (plan : Plan) (file : List ℕ) (faithful : IsFai
       (judges pages (run s0 k) (after_run pages s0 k none) clear))
 
   -- where nothing is refused, wherever the original then stands
-  stands : (n : ℕ) → HasBuffers s0 n → is_refusal (run s0 n).ending ≡ false → (m : ℕ) × LooksAs s0 t0 n m
+  stands : (n : ℕ) → NoBufferRefused s0 n → is_refusal (run s0 n).ending ≡ false → (m : ℕ) × LooksAs s0 t0 n m
   unfolding start_of
   stands zero buffers fine = (0, record { later = omega arith; ending = refl; output = λ descriptor. refl })
   stands (suc k) buffers fine =

@@ -1,7 +1,7 @@
 -- What laid code has: words, and ranges that notes may have.
 use Rattle.edit_core.proofs.Common.{◌≡◌, ℕ, zero, suc, ◌+◌, ◌*◌, ◌%◌, ◌^◌, ◌<◌, ◌≤◌, true, nat_lt, nat_le, Option, Some, None, List, [], ◌∷◌, ◌++◌, length, map, refl, ap, sym, ◌∙◌, arith, cond, slice_get, flat_map, list_any, le-leb, le-ltb, lt-ltb, nat_tests, slice_get_within, Words, address_of, IsText, NoteSegment, NoteRange, holds, are_ranges, Graph, Each, Item, Ascend, IsLaid, IsRangeOf, Placement, item_at, range_in, piece_list, IsGraphOf, each_index, option_map, slice_get-map, item_in, items_in, range_of, open_in, end_from, Foreign, piece_number, shape_list, foreign_stands, shape_at, text_graph, piece_shaped}
 use Rattle.layout.specs.declared.items.Item.TheVariants as it
-use Rattle.image_code.specs.declared.shape.Visit.{Visit}
+use Rattle.image_code.specs.declared.shape.SourceWord.{SourceWord}
 use Rattle.image_code.specs.Shapes.{exit_items, items_of, mark_items}
 use Rattle.image_code.proofs.Shapes.{first_mark, first_of}
 use Rattle.edit_core.proofs.Graphs.{IsNumber, number_of}
@@ -93,8 +93,8 @@ module _ (text : Words) (graph : Graph) (table cases : ℕ) (codes : ℕ → Lis
       let same : r ≡ record { lo = place k 1; hi = place k end; address = m.address.0; node = r.node } = same_Some _ _ both in
       let size : items_in (slice_get pieces k) ≡ suc (suc (length rest)) = ap items_in piece in
       let last = laid.within k end inside (omega (arith, size, ends_inside (f.item ∷ rest) 1)) in
-      let from : m.address.0 ≡ address_of text its.word = ap (λ (x : Visit). x.address.0) its.is in
-      let node = ap (λ (x : Visit). x.node) its.is in
+      let from : m.address.0 ≡ address_of text its.word = ap (λ (x : SourceWord). x.address.0) its.is in
+      let node = ap (λ (x : SourceWord). x.node) its.is in
       record {
         lo = ap (λ z. z % 4) lo ∙ (laid.within k 1 inside (omega (arith, size))).aligned;
         hi = ap (λ (z : NoteRange). z.hi % 4) same ∙ last.aligned;

@@ -17,8 +17,8 @@ use Rattle.edit_core.specs.Code.{AsksOf, CountsEdges, EditRefuses, IsEdited}
 use Rattle.edit_core.specs.Written.{IsTheEdit}
 use Rattle.edit_core.proofs.Outwardly.{does_the_same}
 use Rattle.eel_said.specs.Command as words
-use Rattle.eel.specs.declared.edge_work.EdgeWork.{EdgeWork}
-use Rattle.eel.specs.declared.edge_work.EdgeWork.TheVariants as works
+use Rattle.eel.specs.declared.instrumentation.Instrumentation.{Instrumentation}
+use Rattle.eel.specs.declared.instrumentation.Instrumentation.TheVariants as works
 
 -- ---- answers that are known
 
@@ -114,7 +114,7 @@ weighed_asked view bytes name lines weights cells is are found =
 
 -- ---- the tool that is made of it
 
-few_cells : (work : EdgeWork) → IsFit work → cells_of work ≤ 2 ^ 23
+few_cells : (work : Instrumentation) → IsFit work → cells_of work ≤ 2 ^ 23
 few_cells works.Nothing fit = omega arith
 few_cells (works.Script script) fit = let few = fit.few in omega (arith, few)
 few_cells (works.Counters tree) fit = let few = fit.1 in omega (arith, few)
@@ -122,7 +122,7 @@ few_cells (works.Ring bits) fit =
     let small : 2 ^ bits ≤ 2 ^ 16 = pow-le-pow_right {n = 2} (omega arith) {i = bits} {j = 16} fit.1 in
     omega (arith, small)
 
-pub is_sound : (work : EdgeWork) → IsFit work → IsSound MayAsk Says (cells_of work) work
+pub is_sound : (work : Instrumentation) → IsFit work → IsSound MayAsk Says (cells_of work) work
 is_sound work fit = record {
   few = few_cells work fit;
   called = λ edge number. (fit, number);
@@ -130,20 +130,20 @@ is_sound work fit = record {
   same = λ edge one other number first second. first.0 ∙ sym second.0;
 }
 
-are_counted : (work : EdgeWork) → IsFit work → (marks bytes : List ℕ) → AreCounted 2 (plan_for work marks bytes)
+are_counted : (work : Instrumentation) → IsFit work → (marks bytes : List ℕ) → AreCounted 2 (plan_for work marks bytes)
 are_counted (works.Counters tree) fit marks bytes =
     λ profile. counters_from tree fit.0 0 (length (view_of bytes marks).graph.edges)
 are_counted works.Nothing fit marks bytes = λ profile. absurd (cc profile)
 are_counted (works.Script script) fit marks bytes = λ profile. absurd (cc profile)
 are_counted (works.Ring bits) fit marks bytes = λ profile. absurd (cc profile)
 
-module _ (work : EdgeWork) (tool : Kept EdgeWork) (bytes : List ℕ) (marks : List WordNo) (chooses : tool.choose ≡ work)
+module _ (work : Instrumentation) (tool : Kept Instrumentation) (bytes : List ℕ) (marks : List WordNo) (chooses : tool.choose ≡ work)
     (counts : tool.cells ≡ cells_of work) (marked : tool.marks ≡ marks) (serves : tool.kind ≡ kind_of work) where
   plan_is : (plan : Plan) → AsksOf Says tool bytes plan → plan ≡ plan_for work (numbers marks) bytes
   plan_is plan asks =
       let snips =
       all_asked Says tool.choose (view_of bytes (numbers marks)).graph.edges plan.snips (λ edge. ops_on work edge)
-      (λ k edge answer said. said.0 ∙ ap (λ (w : EdgeWork). ops_on w k) chooses) (rw marked at asks.snips) in
+      (λ k edge answer said. said.0 ∙ ap (λ (w : Instrumentation). ops_on w k) chooses) (rw marked at asks.snips) in
       λ i. record {
         kind = (asks.kind ∙ serves) i;
         marks = (asks.marks ∙ ap numbers marked) i;

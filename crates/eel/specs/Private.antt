@@ -33,8 +33,8 @@ use Rattle.eel_reports.specs.Answers.Trees.{guessed_with, AreCells}
 use Rattle.eel.specs.Answers.Profile.{plan_with}
 use Rattle.eel.specs.Code.{IsMarkedProfile}
 use Rattle.eel.specs.Answers.Edit.{plan_of}
-use Rattle.eel.specs.declared.edge_work.EdgeWork.{EdgeWork}
-use Rattle.eel.specs.declared.edge_work.EdgeWork.TheVariants as works
+use Rattle.eel.specs.declared.instrumentation.Instrumentation.{Instrumentation}
+use Rattle.eel.specs.declared.instrumentation.Instrumentation.TheVariants as works
 
 -- the run was broken off
 abbrev pub was_broken : Stop → Bool
@@ -95,40 +95,40 @@ untold_of written name ring_faults.NoMemory = OutOfMemory
 -- ---- what an edit puts on edges
 
 -- the operations on an edge, by its number
-abbrev pub ops_on : EdgeWork → ℕ → List Op
+abbrev pub ops_on : Instrumentation → ℕ → List Op
 ops_on works.Nothing edge = []
 ops_on (works.Script script) edge = get_or script.snips.items edge []
 ops_on (works.Counters tree) edge = counter_in 2 (cell_at tree edge)
 ops_on (works.Ring bits) edge = ring_on bits edge
 
-abbrev pub cells_of : EdgeWork → ℕ
+abbrev pub cells_of : Instrumentation → ℕ
 cells_of works.Nothing = 0
 cells_of (works.Script script) = script.cells
 cells_of (works.Counters tree) = 2 * cell_count tree
 cells_of (works.Ring bits) = 1 + 2 ^ bits
 
-abbrev pub kind_of : EdgeWork → ToolKind
+abbrev pub kind_of : Instrumentation → ToolKind
 kind_of works.Nothing = kinds.Plain
 kind_of (works.Script script) = kinds.Script
 kind_of (works.Counters tree) = kinds.Profile
 kind_of (works.Ring bits) = kinds.Trace
 
 -- all that is asked of a file with these marks
-abbrev pub plan_for : EdgeWork → List ℕ → List ℕ → Plan
+abbrev pub plan_for : Instrumentation → List ℕ → List ℕ → Plan
 plan_for work marks bytes =
     plan_of (kind_of work) marks (cells_of work)
     (map (λ edge. ops_on work edge) (range_with_len 0 (length (view_of bytes marks).graph.edges)))
 
 -- there are few cells, and the operations work on them
-abbrev pub IsFit : EdgeWork → Type 0
+abbrev pub IsFit : Instrumentation → Type 0
 IsFit works.Nothing = Unit {0}
 IsFit (works.Script script) = HasCells script
 IsFit (works.Counters tree) = AreNumbered tree × (cell_count tree ≤ 2 ^ 22)
 IsFit (works.Ring bits) = (1 ≤ bits) × (bits ≤ 16)
 
 -- on which edges it is asked for operations, and which it may answer
-abbrev pub MayAsk : EdgeWork → EdgeRef → Type 0
+abbrev pub MayAsk : Instrumentation → EdgeRef → Type 0
 MayAsk work edge = IsFit work × (edge.no.0 < 2 ^ 24)
 
-abbrev pub Says : EdgeWork → EdgeRef → List Op → Type 0
+abbrev pub Says : Instrumentation → EdgeRef → List Op → Type 0
 Says work edge ops = (ops ≡ ops_on work edge.no.0) × WorksBelow (cells_of work) ops

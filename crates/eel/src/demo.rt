@@ -18,8 +18,8 @@ ghost use Rattle.eel.specs.Answers.Dump.{IsNoted};
 ghost use Rattle.eel.specs.Private.{IsProfileOf, guessed, IsLastDump};
 
 use crate::dumps::dump_of;
-use crate::edge_work::{EdgeWork, edit_by};
 use crate::edit::refusal;
+use crate::instrumentation::{Instrumentation, edit_by};
 use cfg_view::View;
 use dump_file::Dump;
 use eel_base::{NoMemory, Sink};
@@ -121,7 +121,7 @@ fn profile(alloc: Global, original: &[u8], view: &View) -> Result<Vec<u8>, Outco
         original,
         view,
         Vec::new(alloc),
-        EdgeWork::Counters(tree),
+        Instrumentation::Counters(tree),
     ) {
         Ok(written) => Ok(written),
         Err(fault) => Err(refusal(NAME, fault)),

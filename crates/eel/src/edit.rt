@@ -9,7 +9,7 @@ ghost use Rattle.eel_reports.specs.Code.{AreRefused, AreWithin, marks_of};
 ghost use Rattle.eel.specs.Answers.Tool.{Asks, Edits, IsEditBy, IsNotEdited};
 ghost use Rattle.eel.specs.Private.{IsFit, plan_for, refusal_of};
 
-use crate::edge_work::{EdgeWork, edit_by};
+use crate::instrumentation::{Instrumentation, edit_by};
 use cfg_view::View;
 use edit_core::EditFault;
 use eel_base::Files;
@@ -76,7 +76,7 @@ fn work_for<'a>(
     view: &View,
     tool: &EditTool<'a>,
     lines: &[u8],
-) -> Result<EdgeWork, Outcome<'a>>
+) -> Result<Instrumentation, Outcome<'a>>
     requires view { IsView view.now }
     requires few { length view.now.graph.edges ≤ 2 ^ 22 }
     requires bits { KeepsBits (tool_seen tool.now) }
@@ -89,14 +89,16 @@ fn work_for<'a>(
         AreRefused (tool_seen tool.now) (view_seen view.now) lines.now (outcome_seen outcome)) }
 {
     match tool {
-        EditTool::Plain => Ok(EdgeWork::Nothing),
-        EditTool::Profile => Ok(EdgeWork::Counters(heaviest_tree(alloc, view)?)),
-        EditTool::Weighed(name) => Ok(EdgeWork::Counters(measured_tree(
+        EditTool::Plain => Ok(Instrumentation::Nothing),
+        EditTool::Profile => Ok(Instrumentation::Counters(heaviest_tree(alloc, view)?)),
+        EditTool::Weighed(name) => Ok(Instrumentation::Counters(measured_tree(
             alloc, view, *name, lines,
         )?)),
-        EditTool::Every => Ok(EdgeWork::Counters(heaviest_tree(alloc, view)?)),
-        EditTool::Trace(bits) => Ok(EdgeWork::Ring(*bits)),
-        EditTool::Script(name) => Ok(EdgeWork::Script(script_in(alloc, view, *name, lines)?)),
+        EditTool::Every => Ok(Instrumentation::Counters(heaviest_tree(alloc, view)?)),
+        EditTool::Trace(bits) => Ok(Instrumentation::Ring(*bits)),
+        EditTool::Script(name) => Ok(Instrumentation::Script(script_in(
+            alloc, view, *name, lines,
+        )?)),
     }
 }
 

@@ -4,8 +4,8 @@
 
 mod demo;
 mod dumps;
-mod edge_work;
 mod edit;
+mod instrumentation;
 mod last_edges;
 mod profiles;
 mod program;

@@ -5,7 +5,7 @@ use Rattle.v8_step.specs.declared.Ending.TheVariants.{Exit}
 use Rattle.v8_step.specs.State.{State}
 use Rattle.v8_step.specs.Run.{run}
 use Rattle.two_runs.specs.Needed.{IsUntouched}
-use Rattle.two_runs.specs.Refused.{above_first_page, HasBuffers, IsGranted, IsUntouchedWhereRefused}
+use Rattle.two_runs.specs.Refused.{above_first_page, NoBufferRefused, IsGranted, IsUntouchedWhereRefused}
 use Rattle.two_runs.specs.Visits.{pages_of}
 use Rattle.edit_core.specs.RunsAlike.{visits_by}
 
@@ -18,7 +18,7 @@ pub data IsClear (notes : Notes) (s0 t0 : State) (m : ℕ) : Type 0 where
   -- what is refused lies below 4096, as by a null pointer
   crashes : IsUntouchedWhereRefused (above_first_page ∷ []) s0 (visits_by notes t0 m) → IsClear notes s0 t0 m
   -- it ends by `exit` sooner or later, and none of its buffers is refused
-  exits : (n status : ℕ) → (run s0 n).ending ≡ Some (Exit status) → HasBuffers s0 n → IsClear notes s0 t0 m
+  exits : (n status : ℕ) → (run s0 n).ending ≡ Some (Exit status) → NoBufferRefused s0 n → IsClear notes s0 t0 m
 
 -- After n steps the original has ended, and after m the written file.
 pub record AreOver (s0 t0 : State) (n m : ℕ) : Type 0 where

@@ -89,12 +89,12 @@ unfoldable pub use Rattle.image_code.specs.SnippetWords.{codes_of}
 pub use Rattle.image_code.specs.Store.{cells_in, operations_on, snippet_on, updates}
 pub use Rattle.image_code.specs.declared.shape.Exit.{Exit}
 pub use Rattle.image_code.specs.declared.shape.Head.{Head}
-pub use Rattle.image_code.specs.declared.shape.Visit.{Visit as OfWord, Visit}
+pub use Rattle.image_code.specs.declared.shape.SourceWord.{SourceWord as OfWord, SourceWord}
 pub use Rattle.indexmap.specs.IndexMap.{get}
 pub use Rattle.jump_code.proofs.FindFollowing.{goes, look_up_simulates, resume_hops}
 pub use Rattle.jump_code.proofs.Fitting.{Fit, words_mean, find_fits, link_fits, lt, long_jump_fits}
-pub use Rattle.jump_code.specs.Choosing.{choice_at, switch_jump, choose, ComesToCase, IsAboutToChoose, chosen}
-pub use Rattle.jump_code.specs.Finding.{look_up, resume, find_words, IsAboutToFind, found_memory}
+pub use Rattle.jump_code.specs.Choosing.{choice_at, switch_jump, jump_by_case, ComesToCase, IsAboutToChoose, chosen}
+pub use Rattle.jump_code.specs.Finding.{translate_target, jump_translated, find_words, IsAboutToFind, found_memory}
 pub use Rattle.jump_code.specs.FreeRegister.{IsApart, free_register, other_register, second_register, first_free, is_one_of_four, next_free, IsNotIn}
 pub use Rattle.jump_code.specs.Jumped.{jumped}
 pub use Rattle.jump_code.specs.Keeping.{save_load_address, SavesLoadAddress, kept_memory}

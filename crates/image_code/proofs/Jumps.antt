@@ -1,6 +1,6 @@
 -- The words of a CALL and of a JMPL, and then the way; or the ending that a misaligned target has; and those of an open
 -- switch's JMPL, which lead to the piece of a Case edge.
-use Rattle.image_code.proofs.Common.{words_mean, ◌≡◌, ℕ, ◌+◌, ◌%◌, ◌^◌, ◌<◌, ◌≤◌, inl, inr, false, Option, Some, None, List, [], ◌∷◌, ◌++◌, length, length-append, refl, ap, sym, ◌∙◌, subst, arith, ℤ, Words, word_at, Op2, Instr, decode_of, wrapped, code_of, Ending, NoSlot, State, sum_of, target_of, act, is_transfer, instr_at, Point, point_of, node_after, moved, delayed, trapped, mem_address_not_aligned, call_step, with_register, hopped, memory_word, table_word, Leads, leads_weaker, stores_none, IsBetween, IsPageWord, IsAboutToCall, link, past, Fit, words_of, lt, look_up, loads_there, jumped, link_fits, find_fits, IsAboutToFind, found_memory, goes, look_up_simulates, HasWordAt, choice_at, switch_jump, ComesToCase, IsAboutToChoose, choose, chosen, at_point, does_at, gone_at, graph_in, is_jmpl}
+use Rattle.image_code.proofs.Common.{words_mean, ◌≡◌, ℕ, ◌+◌, ◌%◌, ◌^◌, ◌<◌, ◌≤◌, inl, inr, false, Option, Some, None, List, [], ◌∷◌, ◌++◌, length, length-append, refl, ap, sym, ◌∙◌, subst, arith, ℤ, Words, word_at, Op2, Instr, decode_of, wrapped, code_of, Ending, NoSlot, State, sum_of, target_of, act, is_transfer, instr_at, Point, point_of, node_after, moved, delayed, trapped, mem_address_not_aligned, call_step, with_register, hopped, memory_word, table_word, Leads, leads_weaker, stores_none, IsBetween, IsPageWord, IsAboutToCall, link, past, Fit, words_of, lt, translate_target, loads_there, jumped, link_fits, find_fits, IsAboutToFind, found_memory, goes, look_up_simulates, HasWordAt, choice_at, switch_jump, ComesToCase, IsAboutToChoose, jump_by_case, chosen, at_point, does_at, gone_at, graph_in, is_jmpl}
 use Rattle.v8_decode.specs.declared.Instr.TheVariants as i
 use Rattle.code_runs.proofs.Picked.{equal_or_not}
 use Rattle.jump_code.proofs.Choosing.{choices_simulate}
@@ -83,7 +83,7 @@ module _ (visit : Visit) (c : IsJump visit.site visit.node visit.x visit.t) wher
   at_jump = moved c.address.0 (wrapped (c.address.0 + 4)) NoSlot t
 
   abbrev image : List Instr
-  image = look_up c.scratch c.second c.rd c.rs1 c.op2 f.halves.base c.address.0
+  image = translate_target c.scratch c.second c.rd c.rs1 c.op2 f.halves.base c.address.0
 
   many : 12 ≤ length image
   many = omega arith
@@ -198,7 +198,7 @@ and_fits : (xs ys : List Instr) → Fit xs → Fit ys → Fit (xs ++ ys)
 and_fits [] ys f h = h
 and_fits (x ∷ xs) ys f h = (f.0, f.1, and_fits xs ys f.2 h)
 
-choose_fits : (distance : ℕ) → distance < 2 ^ 32 → Fit (choose distance)
+choose_fits : (distance : ℕ) → distance < 2 ^ 32 → Fit (jump_by_case distance)
 choose_fits distance short = grind (arith, lt)
 
 module _ (visit : Visit) (c : IsSwitchJump visit.site visit.node visit.x visit.t) where
@@ -212,7 +212,7 @@ module _ (visit : Visit) (c : IsSwitchJump visit.site visit.node visit.x visit.t
 
   sizes : (9 ≤ length choice) × (length choice ≤ 11)
   sizes =
-      let count = length-append (link c.rd c.address.0) (choose c.distance) in
+      let count = length-append (link c.rd c.address.0) (jump_by_case c.distance) in
       let few = link_few c.rd c.address.0 in
       omega arith
 
@@ -235,7 +235,7 @@ module _ (visit : Visit) (c : IsSwitchJump visit.site visit.node visit.x visit.t
         ready = record { live = here.live; npc = at_choice.next (omega (arith, sizes)) };
         low = omega (arith, at_choice.low, sizes);
         words = words_mean (code_of t.memory) t.pc choice
-            (and_fits (link c.rd c.address.0) (choose c.distance) (link_fits c.rd c.address.0 c.register short)
+            (and_fits (link c.rd c.address.0) (jump_by_case c.distance) (link_fits c.rd c.address.0 c.register short)
             (choose_fits c.distance c.near)) at_choice.words;
         register = c.register;
         short = short;

@@ -1,5 +1,5 @@
 -- The way along the edge of a JMPL: behind its slot's word the snippet, and the jump to a landing or the foreign piece.
-use Rattle.image_code.proofs.Common.{◌≡◌, ◌≢◌, ℕ, ◌+◌, ◌%◌, ◌<◌, inl, inr, Some, None, List, [], ◌∷◌, ◌++◌, length, refl, ap, sym, ◌∙◌, subst, arith, slice_get, slice_index, flat_map, word_at, decode_of, AllApart, State, register_of, act, judged_by, pages_of, hopped, page_word, resume, word_items, Item, foreign, false≢true, bare, found_there, waiting, resume_hops, at_point, graph_in, NoneIsOut, memory_word}
+use Rattle.image_code.proofs.Common.{◌≡◌, ◌≢◌, ℕ, ◌+◌, ◌%◌, ◌<◌, inl, inr, Some, None, List, [], ◌∷◌, ◌++◌, length, refl, ap, sym, ◌∙◌, subst, arith, slice_get, slice_index, flat_map, word_at, decode_of, AllApart, State, register_of, act, judged_by, pages_of, hopped, page_word, jump_translated, word_items, Item, foreign, false≢true, bare, found_there, waiting, resume_hops, at_point, graph_in, NoneIsOut, memory_word}
 use Rattle.image_code.specs.declared.shape.Exit.TheVariants as exits
 use Rattle.jump_code.proofs.Leaving.{foreign_leaves}
 use Rattle.image_code.proofs.Points.{Site, StepsFrom, Visit}
@@ -11,7 +11,7 @@ use Rattle.image_code.proofs.Visited.{goes_straight}
 
 -- the jump to what was found
 abbrev going_on : List Item
-going_on = word_items (resume 1)
+going_on = word_items (jump_translated 1)
 
 module _ (site : Site) where
   open site use {g, l, shapes, p, place, f, placed}
@@ -21,7 +21,7 @@ module _ (site : Site) where
   goes_found k n rest a fit at to found aligned =
       let right : found_there a % 4 ≡ 0 = ap (λ z. z % 4) found ∙ aligned in
       subst (λ z. FollowsRoute site None [] a z 3) found
-      (words_hop site k n (found_there a) (resume 1) (refl, refl, (refl, refl, (refl, refl, tt))) rest a fit at
+      (words_hop site k n (found_there a) (jump_translated 1) (refl, refl, (refl, refl, (refl, refl, tt))) rest a fit at
       (omega arith) (λ z e. e) 7 (register_of a 1) (inl (omega arith)) (λ stand low.
       resume_hops 1 a (search (arith, page_there site a.memory fit.has.ours))))
 

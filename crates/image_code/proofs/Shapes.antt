@@ -1,5 +1,5 @@
 -- What holds of each shape: what may be placed, how much room it takes, and where its Mark stands.
-use Rattle.image_code.proofs.Common.{◌≡◌, ℕ, zero, suc, ◌+◌, ◌<◌, ◌≤◌, Bool, true, false, cond, Option, Some, None, List, [], ◌∷◌, ◌++◌, append-nil, length, length-append, length-map, map, map-append, flat_map, refl, ap, sym, ◌∙◌, arith, if◌then◌else◌, slice_get, slice_index, sum_by-cons, Words, address_of, word_at, Addr, PieceNo, decode_of, is_transfer, Node, Graph, IsNodeIn, Item, word_at-address, LeadsBelow, Placement, piece_words, link, long_jump, resume, foreign, words_of, Exit, Head, OfWord, Shape, bare, exit_items, head_items, items_of, mark_items, marked, couple_word, switch_jump, is_mark, marks_in}
+use Rattle.image_code.proofs.Common.{◌≡◌, ℕ, zero, suc, ◌+◌, ◌<◌, ◌≤◌, Bool, true, false, cond, Option, Some, None, List, [], ◌∷◌, ◌++◌, append-nil, length, length-append, length-map, map, map-append, flat_map, refl, ap, sym, ◌∙◌, arith, if◌then◌else◌, slice_get, slice_index, sum_by-cons, Words, address_of, word_at, Addr, PieceNo, decode_of, is_transfer, Node, Graph, IsNodeIn, Item, word_at-address, LeadsBelow, Placement, piece_words, link, long_jump, jump_translated, foreign, words_of, Exit, Head, OfWord, Shape, bare, exit_items, head_items, items_of, mark_items, marked, couple_word, switch_jump, is_mark, marks_in}
 use Rattle.layout.specs.declared.items.Item.TheVariants as it
 use Rattle.layout.specs.Laid.{AreMarked, BranchStands, Stands, branch_long, branch_short, long_words}
 use Rattle.image_code.specs.declared.shape.Exit.TheVariants as exits
@@ -195,7 +195,7 @@ module _ {count : ℕ} where
   exit_sized exits.Behind leads = some_words [] (omega arith)
   exit_sized (exits.Piece piece) leads = more (it.Jump piece) leads (omega arith) no_items
   exit_sized (exits.Far to) leads = some_words (words_of (long_jump to.0)) (omega arith)
-  exit_sized exits.Found leads = some_words (words_of (resume 1)) (omega arith)
+  exit_sized exits.Found leads = some_words (words_of (jump_translated 1)) (omega arith)
   exit_sized exits.Foreign leads = some_words (words_of foreign) (omega arith)
   exit_sized (exits.Saved code) leads = some_words code leads
 

@@ -39,7 +39,7 @@ use Rattle.layout.specs.declared.items.Item.{Item}
 use Rattle.image_code.specs.declared.shape.Exit.{Exit}
 use Rattle.image_code.specs.declared.shape.Exit.TheVariants as exits
 use Rattle.image_code.specs.declared.shape.Head.TheVariants as heads
-use Rattle.image_code.specs.declared.shape.Visit.{Visit}
+use Rattle.image_code.specs.declared.shape.SourceWord.{SourceWord}
 use Rattle.image_code.specs.Simulates.{EditSetup, Simulates, graph_in, number_in}
 use Rattle.image_code.specs.Store.{operations_on}
 use Rattle.image_code.specs.Images.{EditorData, AtVisit, IsPlaced, Pieces}
@@ -74,7 +74,7 @@ module _ (text : Words) (graph : Graph) where
       else leaves_to (address_of text (length text.words))
 
   -- a word of the text at a node
-  abbrev pub visit_of : Node → ℕ → Visit
+  abbrev pub visit_of : Node → ℕ → SourceWord
   visit_of node word = record { address = record { 0 = address_of text word }; node = node_number graph node }
 
   abbrev pub first_way : List ℕ → ℕ
@@ -86,7 +86,7 @@ module _ (text : Words) (graph : Graph) where
   way_out node kind = first_way (edge_from graph node kind)
 
   -- `ba` and `bn` go one way
-  abbrev pub branch_image : Visit → Node → ℕ → Shape
+  abbrev pub branch_image : SourceWord → Node → ℕ → Shape
   branch_image visit node cond =
       let taken = way_out node kinds.Taken in
       let untaken = way_out node kinds.Untaken in
@@ -130,19 +130,19 @@ distance_of cases first table = (cases + 4 * first + 2 ^ 32 - table) % 2 ^ 32
 
 -- Jumps look up in the table at `jumps`, and `cases` is where the words stand that have the pieces of Case edges.
 module _ (text : Words) (graph : Graph) (jumps cases : ℕ) where
-  abbrev pub choice_of : Visit → ℕ → Option ℕ → Option Open → Shape
+  abbrev pub choice_of : SourceWord → ℕ → Option ℕ → Option Open → Shape
   choice_of visit rd (Some k) (Some o) =
       let distance = distance_of cases (first_entry text graph k) o.switch.table.0 in
       marked visit (heads.SwitchJump rd distance) [] exits.Behind
   choice_of visit rd _ _ = bare [] exits.Behind
 
-  abbrev pub jump_by : Visit → Node → ℕ → ℕ → Op2 → Shape
+  abbrev pub jump_by : SourceWord → Node → ℕ → ℕ → Op2 → Shape
   jump_by visit node rd rs1 op2 =
       let code = find_words (free_register rd rs1 op2) (other_register rd rs1 op2) rs1 op2 jumps in
       marked visit (heads.LookUp (words_of code) rd) [] (goes_to (way_out text graph node kinds.Out))
 
   -- at the block itself of an open switch's jump a Case edge is chosen
-  abbrev pub jump_image_by : Visit → Node → ℕ → ℕ → Op2 → Shape
+  abbrev pub jump_image_by : SourceWord → Node → ℕ → ℕ → Op2 → Shape
   jump_image_by visit (Block block) rd rs1 op2 =
       if jumps_in graph.opens block.0
       then choice_of visit rd (jump_number graph.opens block.0)
@@ -151,7 +151,7 @@ module _ (text : Words) (graph : Graph) (jumps cases : ℕ) where
   jump_image_by visit node rd rs1 op2 = jump_by visit node rd rs1 op2
 
   -- Behind the last word of a block comes the snippet of the edge to the next word.
-  abbrev pub image_by : Visit → Node → ℕ → Instr → Shape
+  abbrev pub image_by : SourceWord → Node → ℕ → Instr → Shape
   image_by visit node word (i.Branch cond annul disp22) = branch_image text graph visit node cond
   image_by visit node word (i.Call disp30) =
       marked visit heads.Call [] (goes_to (way_out text graph node kinds.Call))
@@ -181,7 +181,7 @@ first_word graph X = 0
 
 module _ (text : Words) (graph : Graph) (table : ℕ) where
   -- a transfer in a slot ends the run
-  abbrev pub slot_copy : Visit → ℕ → ℕ → Edge → ℕ → Shape
+  abbrev pub slot_copy : SourceWord → ℕ → ℕ → Edge → ℕ → Shape
   slot_copy visit word number edge to =
       if is_transfer (decode_of word) then marked visit heads.Couple [] exits.Behind
       else marked visit (heads.Word word) (number ∷ []) (goes_behind text graph edge to)

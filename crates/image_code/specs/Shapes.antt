@@ -5,21 +5,21 @@ use Rattle.eel_base.specs.declared.numbers.Addr.{Addr}
 use Rattle.layout.specs.declared.items.Item.{Item}
 use Rattle.layout.specs.declared.items.Item.TheVariants as it
 use Rattle.jump_code.specs.Choosing.{switch_jump}
-use Rattle.jump_code.specs.Finding.{resume}
+use Rattle.jump_code.specs.Finding.{jump_translated}
 use Rattle.jump_code.specs.Links.{link}
 use Rattle.jump_code.specs.Pieces.{foreign_piece, long_jump_piece, word_items}
 use Rattle.image_code.specs.declared.shape.Exit.{Exit}
 use Rattle.image_code.specs.declared.shape.Exit.TheVariants as exits
 use Rattle.image_code.specs.declared.shape.Head.{Head}
 use Rattle.image_code.specs.declared.shape.Head.TheVariants as heads
-use Rattle.image_code.specs.declared.shape.Visit.{Visit}
+use Rattle.image_code.specs.declared.shape.SourceWord.{SourceWord}
 
 pub record Shape : Type 0 where
-  pub mark : Option (Visit × Head)
+  pub mark : Option (SourceWord × Head)
   pub edges : List ℕ
   pub exit : Exit
 
-abbrev pub marked : Visit → Head → List ℕ → Exit → Shape
+abbrev pub marked : SourceWord → Head → List ℕ → Exit → Shape
 marked visit head edges exit = record { mark = Some (visit, head); edges = edges; exit = exit }
 
 abbrev pub bare : List ℕ → Exit → Shape
@@ -41,7 +41,7 @@ abbrev pub exit_items : Exit → List Item
 exit_items exits.Behind = []
 exit_items (exits.Piece piece) = it.Jump piece ∷ []
 exit_items (exits.Far to) = long_jump_piece to.0
-exit_items exits.Found = word_items (resume 1)
+exit_items exits.Found = word_items (jump_translated 1)
 exit_items exits.Foreign = foreign_piece
 exit_items (exits.Saved code) = map it.Word code
 
@@ -55,7 +55,7 @@ head_items address (heads.SwitchJump rd distance) = word_items (switch_jump rd a
 head_items address heads.Couple = it.Word couple_word ∷ it.Word couple_word ∷ []
 
 -- a Mark, with what stands in it, before the rest of a piece
-abbrev pub mark_items : Option (Visit × Head) → List Item → List Item
+abbrev pub mark_items : Option (SourceWord × Head) → List Item → List Item
 mark_items None rest = rest
 mark_items (Some (visit, head)) rest =
     it.Mark visit.address visit.node ∷ (head_items visit.address head ++ it.EndMark ∷ rest)

@@ -14,11 +14,11 @@ ghost use Rattle.v8_encode.specs.Code.{op2_fits};
 
 use crate::maker::PieceMaker;
 use crate::numbering::piece;
-use crate::shape::{Exit, Head, NOP, Shape, Visit, bare, is_transfer, marked, push_piece};
+use crate::shape::{Exit, Head, NOP, Shape, SourceWord, bare, is_transfer, marked, push_piece};
 use cfg_blocks::EdgeKind;
 use cfg_normal::{FlowGraph, Node, node_number, same_node};
 use eel_base::{Addr, BlockNo, NoMemory, PieceNo, Text, WordNo};
-use jump_code::{free_register, look_up_code, other_register};
+use jump_code::{free_register, other_register, translate_target_code};
 use layout::Piece;
 use std::alloc::Global;
 use v8_decode::{Cond, Instr, Op2, Reg, decode};
@@ -140,7 +140,7 @@ impl PieceMaker<'_> {
     }
 
     // The image of a branch. `ba` and `bn` are a nop and a jump to the way along their only edge.
-    fn branch_image(&self, visit: Visit, node: Node, cond: Cond) -> Result<Shape, NoMemory>
+    fn branch_image(&self, visit: SourceWord, node: Node, cond: Cond) -> Result<Shape, NoMemory>
         requires node { IsNumbered (length self.now.graph.now.blocks.firsts) node }
         ensures { IfOk result (λ p. p ≡ branch_image_of self.now.text.now self.now.graph.now visit node cond) }
     {
@@ -159,7 +159,7 @@ impl PieceMaker<'_> {
     }
 
     // The image of a JMPL at the block itself of an open switch.
-    fn switch_jump(&self, visit: Visit, rd: Reg, number: usize) -> Shape
+    fn switch_jump(&self, visit: SourceWord, rd: Reg, number: usize) -> Shape
         ensures { result ≡ choice_of self.now.text.now self.now.graph.now self.now.jumps.0 self.now.cases.0 visit rd
             (Some number) (slice_get self.now.graph.now.opens number) }
     {
@@ -176,7 +176,7 @@ impl PieceMaker<'_> {
     // The image of any other JMPL, which looks up in the jumps' table.
     fn jump_out(
         &self,
-        visit: Visit,
+        visit: SourceWord,
         node: Node,
         rd: Reg,
         rs1: Reg,
@@ -190,14 +190,14 @@ impl PieceMaker<'_> {
         let way = self.way_out(node, EdgeKind::Out)?;
         let first = free_register(rd, rs1, &op2);
         let second = other_register(rd, rs1, &op2);
-        let code = look_up_code(first, second, rs1, op2, self.jumps);
+        let code = translate_target_code(first, second, rs1, op2, self.jumps);
         Ok(marked(visit, Head::LookUp { code, rd }, None, Exit::Piece(way)))
     }
 
     // The image of a JMPL at a block itself.
     fn jump_at(
         &self,
-        visit: Visit,
+        visit: SourceWord,
         block: BlockNo,
         rd: Reg,
         rs1: Reg,
@@ -218,7 +218,7 @@ impl PieceMaker<'_> {
     // The image of a JMPL.
     fn jump_image(
         &self,
-        visit: Visit,
+        visit: SourceWord,
         node: Node,
         rd: Reg,
         rs1: Reg,
@@ -244,7 +244,7 @@ impl PieceMaker<'_> {
         ensures { IfOk result (λ p. p ≡ image_of self.now.text.now self.now.graph.now self.now.jumps.0
             self.now.cases.0 node word.0) }
     {
-        let visit = Visit {
+        let visit = SourceWord {
             address: self.text.address(word),
             node: node_number(self.graph, node),
         };

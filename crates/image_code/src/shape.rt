@@ -14,7 +14,7 @@ ghost use Rattle.layout.specs.declared.items.Item.TheVariants as it;
 use crate::expansion::Codes;
 use eel_base::{Addr, NoMemory, PieceNo};
 use jump_code::{
-    call_code, choose_code, foreign_code, link_code, long_jump_code, resume_code,
+    call_code, foreign_code, jump_by_case_code, jump_translated_code, link_code, long_jump_code,
     save_load_address_code,
 };
 use layout::{Item, Piece};
@@ -32,7 +32,7 @@ const COUPLE: u32 = 0x1080_0002;
 
 /// What a word stands for: an instruction of the original, by its address, at a node.
 #[derive(Clone, Copy)]
-pub struct Visit {
+pub struct SourceWord {
     pub address: Addr,
     pub node: u32,
 }
@@ -74,7 +74,7 @@ pub enum Exit {
 /// on.
 #[derive(Drop)]
 pub struct Shape {
-    pub mark: Option<(Visit, Head)>,
+    pub mark: Option<(SourceWord, Head)>,
     pub edge: Option<u32>,
     pub exit: Exit,
 }
@@ -123,14 +123,14 @@ fn push_head(items: &mut Vec<Item>, address: Addr, head: Head) -> Result<(), NoM
         }
         Head::SwitchJump { rd, distance } => {
             push_link(items, rd, address)?;
-            push_words(items, &choose_code(distance))?;
+            push_words(items, &jump_by_case_code(distance))?;
         }
         Head::Couple => push_words(items, &[COUPLE, COUPLE])?,
     }
     Ok(())
 }
 
-fn push_mark(items: &mut Vec<Item>, mark: Option<(Visit, Head)>) -> Result<(), NoMemory>
+fn push_mark(items: &mut Vec<Item>, mark: Option<(SourceWord, Head)>) -> Result<(), NoMemory>
     ensures { OnOk result (items.new.items ≡ items.old.items ++ mark_items mark []) }
 {
     if let Some((visit, head)) = mark {
@@ -151,7 +151,7 @@ fn push_exit(items: &mut Vec<Item>, exit: Exit) -> Result<(), NoMemory>
         Exit::Behind => {}
         Exit::Piece(piece) => items.push(Item::Jump(piece))?,
         Exit::Far(to) => push_words(items, &long_jump_code(to))?,
-        Exit::Found => push_words(items, &resume_code(register(1)))?,
+        Exit::Found => push_words(items, &jump_translated_code(register(1)))?,
         Exit::Foreign => push_words(items, &foreign_code())?,
         Exit::Saved(code) => push_words(items, &code)?,
     }
@@ -159,7 +159,7 @@ fn push_exit(items: &mut Vec<Item>, exit: Exit) -> Result<(), NoMemory>
 }
 
 // How many items a Mark takes at most, with what stands in it.
-fn mark_room(mark: Option<(Visit, Head)>) -> usize
+fn mark_room(mark: Option<(SourceWord, Head)>) -> usize
     ensures few { result ≤ 16 }
 {
     match mark {
@@ -210,7 +210,7 @@ pub fn push_piece(
 // ---- shapes
 
 /// What stands in the Mark of a visit, the snippet on an edge, and the way on.
-pub fn marked(visit: Visit, head: Head, edge: Option<u32>, exit: Exit) -> Shape
+pub fn marked(visit: SourceWord, head: Head, edge: Option<u32>, exit: Exit) -> Shape
     ensures { result ≡ marked_of visit head (option_to_list edge) exit }
 {
     Shape {

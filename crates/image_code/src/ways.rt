@@ -13,7 +13,7 @@ ghost use Rattle.cfg_blocks.specs.Blocks.{below};
 ghost use Rattle.v8_decode.specs.Words.{decode_of};
 
 use crate::maker::PieceMaker;
-use crate::shape::{Exit, Head, Shape, Visit, bare, is_transfer, marked, push_piece, unused};
+use crate::shape::{Exit, Head, Shape, SourceWord, bare, is_transfer, marked, push_piece, unused};
 use cfg_blocks::EdgeKind;
 use cfg_normal::{Edge, FlowGraph, Node, Slot, node_number};
 use eel_base::{Addr, NoMemory, Text, WordNo};
@@ -106,7 +106,7 @@ impl PieceMaker<'_> {
     // run.
     fn slot_copy(
         &self,
-        visit: Visit,
+        visit: SourceWord,
         word: u32,
         number: u32,
         edge: &Edge,
@@ -136,7 +136,7 @@ impl PieceMaker<'_> {
             Slot::Nothing => Ok(bare(Some(number), self.next_along(edge, to)?)),
             Slot::Off => Ok(bare(None, Exit::Far(self.table))),
             Slot::Word(slot) => {
-                let visit = Visit {
+                let visit = SourceWord {
                     address: self.text.address(slot),
                     node: node_number(self.graph, edge.from),
                 };

@@ -1,5 +1,5 @@
 -- The words of a switch's JMPL, one by one, and beside the original's step.
-use Rattle.jump_code.proofs.Common.{◌≡◌, ℕ, zero, suc, ◌+◌, ◌-◌, ◌*◌, ◌^◌, ◌<◌, inl, None, refl, ap, sym, ◌∙◌, subst, arith, pos, Op2, Reg, Imm, wrapped, Memory, code_of, State, register_of, with_register, IsValid, register_of-range, run-valid, Leads, IsBetween, IsSilent, page_word, of_page, store_word, CanStore, Stores, memory_word, WorksInTwo, Says, StandIn, hops_through, works_state, leads_then, leads_weaker, silent_then, HasTwo, IsNext, both, first, goes_on, in_two, ld_in, none_in_two, second, st_in, two_registers, word, nth, says_at, word_stored, other_word_stored, other_loaded, loads_stored, still_stored, can_load, whole_of, stores_none, CanLoad, ChoicesHop, ChoicesSimulate, ComesToCase, IsAboutToGo, choice_at, choose, chosen, chosen_memory, jumped, IsPageWord, saved_address, past}
+use Rattle.jump_code.proofs.Common.{◌≡◌, ℕ, zero, suc, ◌+◌, ◌-◌, ◌*◌, ◌^◌, ◌<◌, inl, None, refl, ap, sym, ◌∙◌, subst, arith, pos, Op2, Reg, Imm, wrapped, Memory, code_of, State, register_of, with_register, IsValid, register_of-range, run-valid, Leads, IsBetween, IsSilent, page_word, of_page, store_word, CanStore, Stores, memory_word, WorksInTwo, Says, StandIn, hops_through, works_state, leads_then, leads_weaker, silent_then, HasTwo, IsNext, both, first, goes_on, in_two, ld_in, none_in_two, second, st_in, two_registers, word, nth, says_at, word_stored, other_word_stored, other_loaded, loads_stored, still_stored, can_load, whole_of, stores_none, CanLoad, ChoicesHop, ChoicesSimulate, ComesToCase, IsAboutToGo, choice_at, jump_by_case, chosen, chosen_memory, jumped, IsPageWord, saved_address, past}
 use Rattle.code_runs.specs.Hops.{Hops, hopped}
 use Rattle.jump_code.proofs.Blocks.{four, addressed, memory_valid, word2, word7}
 use Rattle.jump_code.proofs.Finding.{another}
@@ -42,8 +42,8 @@ module _ (distance : ℕ) (s : State) (h : IsAboutToGo distance s) where
   block : HasTwo s 9 1 2
   block = two_registers s 9 1 2 h.valid h.ready h.low (omega arith) (omega arith) (omega arith) (omega arith) (omega arith)
 
-  at : (n : ℕ) → n < 9 → IsNext s 9 n (nth (choose distance) n)
-  at = word s 9 (choose distance) h.words (omega arith)
+  at : (n : ℕ) → n < 9 → IsNext s 9 n (nth (jump_by_case distance) n)
+  at = word s 9 (jump_by_case distance) h.words (omega arith)
 
   begun : WorksInTwo s 9 IsPageWord 1 2 0 s.memory g1 g2
   begun = none_in_two block
@@ -68,7 +68,7 @@ module _ (distance : ℕ) (s : State) (h : IsAboutToGo distance s) where
   five =
       addressed block distance three h.near (omega arith) ((at 3 (omega arith)).1, (at_four, tt))
     where
-      at_four : Says (code_of s.memory) (s.pc + 4 * 3 + 4) (nth (choose distance) 4)
+      at_four : Says (code_of s.memory) (s.pc + 4 * 3 + 4) (nth (jump_by_case distance) 4)
       at_four = says_at (code_of s.memory) _ _ _ (omega arith) (at 4 (omega arith)).1
 
   -- the word of the choice is none of the page's
@@ -155,7 +155,7 @@ choices_simulate (suc r) rs1 op2 address distance s h live =
       valid = subst IsValid path.steps (run-valid s 2 h.valid);
       ready = record { live = h.ready.live; npc = refl };
       low = omega arith;
-      words = subst (λ z. StandIn (code_of s.memory) z (choose distance))
+      words = subst (λ z. StandIn (code_of s.memory) z (jump_by_case distance))
           (let e : s.pc + 4 + 4 ≡ s.pc + 4 * 2 = omega arith in e) h.words.1.1;
       near = h.near;
       page = h.page;

@@ -19,8 +19,8 @@ pub use Rattle.code_runs.specs.Picked.{Is, IsAlike, WorksInTwo, pair, Works}
 pub use Rattle.code_runs.specs.Points.{moved}
 pub use Rattle.code_runs.specs.StoredWords.{memory_word}
 pub use Rattle.code_runs.specs.Straight.{HasWords, Says, StandIn, IsReady}
-pub use Rattle.jump_code.specs.Choosing.{choice_at, ChoicesHop, ChoicesSimulate, choose, chosen, chosen_memory, ComesToCase, IsAboutToGo, switch_jump}
-pub use Rattle.jump_code.specs.Finding.{ComesFound, EndsFinding, FindsIt, found_memory, IsAboutToFind, look_up, LooksUp, LookUpSimulates, resume, ResumeHops, sought_memory, TrapsFinding}
+pub use Rattle.jump_code.specs.Choosing.{choice_at, ChoicesHop, ChoicesSimulate, jump_by_case, chosen, chosen_memory, ComesToCase, IsAboutToGo, switch_jump}
+pub use Rattle.jump_code.specs.Finding.{ComesFound, EndsFinding, FindsIt, found_memory, IsAboutToFind, translate_target, LooksUp, LookUpSimulates, jump_translated, ResumeHops, sought_memory, TrapsFinding}
 pub use Rattle.jump_code.specs.FreeRegister.{free_register, IsApart, IsNotIn, other_register, second_register}
 pub use Rattle.jump_code.specs.Jumped.{CallsSimulate, jumped}
 pub use Rattle.jump_code.specs.Keeping.{AddressesAreSaved, IsAboutToSave, kept_memory, save_load_address, SavesLoadAddress}

@@ -1,5 +1,5 @@
 -- The image of a JMPL that looks its target up follows the original's step.
-use Rattle.jump_code.proofs.Common.{◌≡◌, ℕ, ◌+◌, ◌%◌, inl, inr, Some, None, length, refl, ap, sym, ◌∙◌, subst, arith, pos, Op2, Imm, Memory, code_of, wrapped, NoSlot, State, register_of, with_register, sum_of, delayed, Leads, IsBetween, page_word, of_page, store_word, Stores, moved, WorksInTwo, hops_through, both, equal_or_not, first, goes_on, none_in_two, two_registers, word, nth_says, can_load, memory_word-range, still_stored, word_stored, register_of-range, TableAt, found_in, ComesFound, EndsFinding, LookUpSimulates, ResumeHops, IsAboutToFind, look_up, found_memory, resume, jumped, past, IsPageWord, found_there}
+use Rattle.jump_code.proofs.Common.{◌≡◌, ℕ, ◌+◌, ◌%◌, inl, inr, Some, None, length, refl, ap, sym, ◌∙◌, subst, arith, pos, Op2, Imm, Memory, code_of, wrapped, NoSlot, State, register_of, with_register, sum_of, delayed, Leads, IsBetween, page_word, of_page, store_word, Stores, moved, WorksInTwo, hops_through, both, equal_or_not, first, goes_on, none_in_two, two_registers, word, nth_says, can_load, memory_word-range, still_stored, word_stored, register_of-range, TableAt, found_in, ComesFound, EndsFinding, LookUpSimulates, ResumeHops, IsAboutToFind, translate_target, found_memory, jump_translated, jumped, past, IsPageWord, found_there}
 use Rattle.v8_step.specs.declared.Ending.{Ending}
 use Rattle.jump_code.proofs.Blocks.{four, word7}
 use Rattle.jump_code.proofs.Finding.{another, looks_up}
@@ -16,7 +16,7 @@ module _ (x y rd rs1 : ℕ) (op2 : Op2) (address : ℕ) (t : TableAt) (s : State
   goes e = jump_goes address rd rs1 op2 s e
 
   abbrev count : ℕ
-  count = length (look_up x y rd rs1 op2 t.base address)
+  count = length (translate_target x y rd rs1 op2 t.base address)
 
   abbrev m : Memory
   m = found_memory s x y rs1 op2 t
@@ -60,11 +60,11 @@ resume_hops x s h =
     let c = two_registers s 3 x o.0 h.valid h.ready h.low h.some h.below o.1 o.2 o.3 in
     let p7 = h.page 7 (omega arith) in
     let w0 : WorksInTwo s 3 IsPageWord x o.0 0 s.memory g (register_of s o.0) = none_in_two c in
-    let w1 = goes_on c w0 (word s 3 (resume x) h.words (omega arith) 0 (omega arith))
+    let w1 = goes_on c w0 (word s 3 (jump_translated x) h.words (omega arith) 0 (omega arith))
     (swap c 0 0 (of_page 7) (page_word 7) (found_there s) (omega arith) (λ u k. refl) refl p7 refl word7) in
     hops_through c 0 (found_there s) (Imm (pos 0)) (of_page 7) (page_word 7) w1 (omega arith)
     (both _ (λ ne. absurd (ne refl)) (λ _. refl)) (omega arith) (omega arith) (four (found_there s) h.aligned)
-    (nth_says (code_of s.memory) s.pc (resume x) 1 h.words (omega arith)) (nth_says (code_of s.memory) s.pc (resume x) 2 h.words (omega arith))
+    (nth_says (code_of s.memory) s.pc (jump_translated x) 1 h.words (omega arith)) (nth_says (code_of s.memory) s.pc (jump_translated x) 2 h.words (omega arith))
     (λ u k. ap (λ z. wrapped (z + 0)) (first k) ∙ (let e : wrapped (to + 0) ≡ to = omega (arith, r) in e)) (λ u. refl) refl
     (can_load m (page_word 7) (still_stored s.memory (page_word 7) (page_word 7) g p7))
     (word_stored s.memory (page_word 7) g (register_of-range s x h.valid) p7)

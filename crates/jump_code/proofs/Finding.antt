@@ -1,5 +1,5 @@
 -- The words of a JMPL that looks its target up, one by one.
-use Rattle.jump_code.proofs.Common.{◌≡◌, ◌≢◌, ℕ, zero, suc, ◌+◌, ◌-◌, ◌*◌, ◌/◌, ◌%◌, ◌^◌, ◌<◌, ◌≤◌, inl, inr, false, Ok, length, refl, ap, sym, ◌∙◌, subst, arith, ◌==◌, pos, Op2, Reg, Imm, alu_of, wrapped, Memory, code_of, NoSlot, State, register_of, operand_of, with_register, sum_of, step_of, mem_address_not_aligned, trapped, IsValid, IsValidMemory, register_of-range, wrapped-range, run-valid, Leads, IsBetween, IsSilent, page_word, of_page, store_word, CanStore, Stores, memory_word, Says, StandIn, Is, IsAlike, WorksInTwo, pair, says_step, works_state, works_same, leads_then, leads_weaker, silent_then, Gives, HasTwo, alu, both, equal_or_not, first, goes_on, in_two, ld_in, none_in_two, second, sethi, st_in, two_registers, nth, nth_says, word_stored, other_loaded, other_word_stored, loads_stored, still_stored, can_load, whole_of, memory_word-range, stores_then, TableAt, found_in, IsReady, says_puts, ld_traps, leads_one, silent_one, says_here, unpicked_is, table_word, IsTwoLevel, entry_at, half_at, LooksUp, FindsIt, IsAboutToFind, TrapsFinding, look_up, found_memory, sought_memory, IsNotIn, address_into, past, IsPageWord}
+use Rattle.jump_code.proofs.Common.{◌≡◌, ◌≢◌, ℕ, zero, suc, ◌+◌, ◌-◌, ◌*◌, ◌/◌, ◌%◌, ◌^◌, ◌<◌, ◌≤◌, inl, inr, false, Ok, length, refl, ap, sym, ◌∙◌, subst, arith, ◌==◌, pos, Op2, Reg, Imm, alu_of, wrapped, Memory, code_of, NoSlot, State, register_of, operand_of, with_register, sum_of, step_of, mem_address_not_aligned, trapped, IsValid, IsValidMemory, register_of-range, wrapped-range, run-valid, Leads, IsBetween, IsSilent, page_word, of_page, store_word, CanStore, Stores, memory_word, Says, StandIn, Is, IsAlike, WorksInTwo, pair, says_step, works_state, works_same, leads_then, leads_weaker, silent_then, Gives, HasTwo, alu, both, equal_or_not, first, goes_on, in_two, ld_in, none_in_two, second, sethi, st_in, two_registers, nth, nth_says, word_stored, other_loaded, other_word_stored, loads_stored, still_stored, can_load, whole_of, memory_word-range, stores_then, TableAt, found_in, IsReady, says_puts, ld_traps, leads_one, silent_one, says_here, unpicked_is, table_word, IsTwoLevel, entry_at, half_at, LooksUp, FindsIt, IsAboutToFind, TrapsFinding, translate_target, found_memory, sought_memory, IsNotIn, address_into, past, IsPageWord}
 use Rattle.v8_decode.specs.declared.AluOp.TheVariants as ops
 use Rattle.v8_decode.specs.declared.Instr.TheVariants as i
 use Rattle.v8_decode.specs.declared.LoadKind.TheVariants as loads
@@ -90,9 +90,9 @@ module _ (x y rd rs1 : ℕ) (op2 : Op2) (address : ℕ) (t : TableAt) (s : State
   can4 n few = still_stored m3 (page_word n) (page_word 7) (found_in t target) (can3 n few)
 
   -- the words before the link
-  at : (n : ℕ) → n < 12 → Says (code_of s.memory) (s.pc + 4 * n) (nth (look_up x y rd rs1 op2 t.base address) n)
+  at : (n : ℕ) → n < 12 → Says (code_of s.memory) (s.pc + 4 * n) (nth (translate_target x y rd rs1 op2 t.base address) n)
   at n few =
-      nth_says (code_of s.memory) s.pc (look_up x y rd rs1 op2 t.base address) n h.words (omega arith)
+      nth_says (code_of s.memory) s.pc (translate_target x y rd rs1 op2 t.base address) n h.words (omega arith)
 
   module _ {count : ℕ} (c : HasTwo s count x y) (many : 10 ≤ count) where
     -- the target, as long as only x and y have changed
@@ -276,7 +276,7 @@ beside x y rd rs1 op2 address t s h count few =
 
 goes : (x y rd rs1 : ℕ) (op2 : Op2) (address : ℕ) (t : TableAt) (s : State)
     → IsAboutToFind x y rd rs1 op2 address t s → sum_of s rs1 op2 % 4 ≡ 0
-    → FindsIt s x y rd rs1 op2 address t (length (look_up x y rd rs1 op2 t.base address))
+    → FindsIt s x y rd rs1 op2 address t (length (translate_target x y rd rs1 op2 t.base address))
 goes x y zero rs1 op2 address t s h aligned =
     let c = beside x y zero rs1 op2 address t s h 12 (omega arith) in
     let w = restored x y zero rs1 op2 address t s h c (omega arith) aligned in

@@ -1,5 +1,5 @@
 -- Instructions that have words.
-use Rattle.jump_code.proofs.Common.{◌≡◌, ℕ, zero, suc, ◌+◌, ◌/◌, ◌%◌, ◌^◌, ◌<◌, true, List, [], ◌∷◌, length, map, refl, ap, ◌∙◌, arith, Op2, Instr, Says, StandIn, HasWords, words_of, nat_lt, has_word, op2_fits, Region, long_jump, look_up, IsApart, link}
+use Rattle.jump_code.proofs.Common.{◌≡◌, ℕ, zero, suc, ◌+◌, ◌/◌, ◌%◌, ◌^◌, ◌<◌, true, List, [], ◌∷◌, length, map, refl, ap, ◌∙◌, arith, Op2, Instr, Says, StandIn, HasWords, words_of, nat_lt, has_word, op2_fits, Region, long_jump, translate_target, IsApart, link}
 use Rattle.std.proofs.lemmas.Bool.{and_from, lt-ltb}
 use Rattle.v8_decode.specs.Ranges.{op2_in_range, is_in_range}
 use Rattle.v8_decode.specs.Words.{decode_of}
@@ -38,7 +38,7 @@ link_fits (suc r) address low short =
 -- a JMPL
 pub find_fits : (x y rd rs1 : ℕ) (op2 : Op2) (table address : ℕ) → IsApart x rd rs1 op2 → IsApart y rd rs1 op2
     → op2_fits op2 ≡ true → op2_in_range op2 ≡ true → table < 2 ^ 32 → address < 2 ^ 32
-    → Fit (look_up x y rd rs1 op2 table address)
+    → Fit (translate_target x y rd rs1 op2 table address)
 find_fits x y rd rs1 op2 table address a b fits low near short =
     let lx = lt x 32 a.below in
     let ly = lt y 32 b.below in

@@ -24,8 +24,8 @@ use Rattle.jump_code.specs.PageWords.{IsPageWord, HasPage, saved_address}
 
 -- %g1 and %g2 wait in words 2 and 7. %g1 takes the kept address, and %g2 how far from it the word stands that has the
 -- piece's address; there the machine goes on, with both registers back.
-abbrev pub choose : ℕ → List Instr
-choose distance =
+abbrev pub jump_by_case : ℕ → List Instr
+jump_by_case distance =
     i.Store stores.ST 1 0 (of_page 2)
     ∷ i.Store stores.ST 2 0 (of_page 7)
     ∷ i.Load loads.LD 1 0 (of_page 0)
@@ -39,7 +39,7 @@ choose distance =
 
 -- all of the JMPL at an address, in one Mark: its link comes first, so that it doesn't matter which registers it names
 abbrev pub switch_jump : ℕ → ℕ → ℕ → List Instr
-switch_jump rd address distance = link rd address ++ choose distance
+switch_jump rd address distance = link rd address ++ jump_by_case distance
 
 -- where the word stands that has the piece's address, and that address
 abbrev pub choice_at : ℕ → State → ℕ
@@ -62,8 +62,8 @@ chosen_memory s = store_word (store_word s.memory (page_word 2) (register_of s 1
 pub record IsAboutToGo (distance : ℕ) (s : State) : Type 0 where
   pub valid : IsValid s
   pub ready : IsReady s
-  pub low : s.pc + 4 * length (choose distance) < 2 ^ 32 - 4
-  pub words : StandIn (code_of s.memory) s.pc (choose distance)
+  pub low : s.pc + 4 * length (jump_by_case distance) < 2 ^ 32 - 4
+  pub words : StandIn (code_of s.memory) s.pc (jump_by_case distance)
   pub near : distance < 2 ^ 32
   pub page : HasPage 8 s.memory
   pub choice : HasChoice distance s
@@ -72,7 +72,7 @@ pub record IsAboutToGo (distance : ℕ) (s : State) : Type 0 where
 abbrev pub ChoicesHop : Type 0
 ChoicesHop =
     (distance : ℕ) (s : State) → IsAboutToGo distance s
-    → Hops s (length (choose distance)) IsPageWord (chosen distance s) (chosen_memory s)
+    → Hops s (length (jump_by_case distance)) IsPageWord (chosen distance s) (chosen_memory s)
 
 -- ---- against the original's step
 

@@ -49,8 +49,8 @@ find_words x y rs1 op2 table =
     ∷ []
 
 -- all of the JMPL at an address, in one Mark
-abbrev pub look_up : ℕ → ℕ → ℕ → ℕ → Op2 → ℕ → ℕ → List Instr
-look_up x y rd rs1 op2 table address = find_words x y rs1 op2 table ++ link rd address
+abbrev pub translate_target : ℕ → ℕ → ℕ → ℕ → Op2 → ℕ → ℕ → List Instr
+translate_target x y rd rs1 op2 table address = find_words x y rs1 op2 table ++ link rd address
 
 pub record IsAboutToFind (x y rd rs1 : ℕ) (op2 : Op2) (address : ℕ) (t : TableAt) (s : State) : Type 0 where
   pub valid : IsValid s
@@ -59,7 +59,7 @@ pub record IsAboutToFind (x y rd rs1 : ℕ) (op2 : Op2) (address : ℕ) (t : Tab
   pub apart : IsApart x rd rs1 op2
   pub other : IsApart y rd rs1 op2
   pub differ : x ≢ y
-  pub words : StandIn (code_of s.memory) s.pc (look_up x y rd rs1 op2 t.base address)
+  pub words : StandIn (code_of s.memory) s.pc (translate_target x y rd rs1 op2 t.base address)
   pub short : address < 2 ^ 32
   pub page : HasPage 8 s.memory
   pub table : IsTwoLevel t
@@ -109,7 +109,7 @@ LooksUp =
     (x y rd rs1 : ℕ) (op2 : Op2) (address : ℕ) (t : TableAt) (s : State)
     → IsAboutToFind x y rd rs1 op2 address t s
     → (sum_of s rs1 op2 % 4 ≡ 0
-    → FindsIt s x y rd rs1 op2 address t (length (look_up x y rd rs1 op2 t.base address)))
+    → FindsIt s x y rd rs1 op2 address t (length (translate_target x y rd rs1 op2 t.base address)))
     × (sum_of s rs1 op2 % 4 ≢ 0 → TrapsFinding s x y)
 
 -- ---- against the original's step
@@ -133,22 +133,22 @@ LookUpSimulates =
     (x y rd rs1 : ℕ) (op2 : Op2) (address : ℕ) (t : TableAt) (s : State)
     → IsAboutToFind x y rd rs1 op2 address t s
     → ((jumped address rd rs1 op2 s).ending ≡ None
-    → ComesFound x y rd rs1 op2 address t s (length (look_up x y rd rs1 op2 t.base address)))
+    → ComesFound x y rd rs1 op2 address t s (length (translate_target x y rd rs1 op2 t.base address)))
     × ((ending : Ending) → (jumped address rd rs1 op2 s).ending ≡ Some ending → EndsFinding x y s ending)
 
 -- ---- behind the slot's copy and the snippet: any register and what was found are exchanged, and the register comes back
 -- in the jump's slot
 
-abbrev pub resume : ℕ → List Instr
-resume x = i.Swap x 0 (of_page 7) ∷ i.Jmpl 0 x (Imm (pos 0)) ∷ i.Load loads.LD x 0 (of_page 7) ∷ []
+abbrev pub jump_translated : ℕ → List Instr
+jump_translated x = i.Swap x 0 (of_page 7) ∷ i.Jmpl 0 x (Imm (pos 0)) ∷ i.Load loads.LD x 0 (of_page 7) ∷ []
 
 pub record IsAboutToGoOn (x : ℕ) (s : State) : Type 0 where
   pub valid : IsValid s
   pub ready : IsReady s
-  pub low : s.pc + 4 * length (resume x) < 2 ^ 32 - 4
+  pub low : s.pc + 4 * length (jump_translated x) < 2 ^ 32 - 4
   pub some : 0 < x
   pub below : x < 32
-  pub words : StandIn (code_of s.memory) s.pc (resume x)
+  pub words : StandIn (code_of s.memory) s.pc (jump_translated x)
   pub page : HasPage 8 s.memory
   pub aligned : found_there s % 4 ≡ 0
 
@@ -156,4 +156,4 @@ pub record IsAboutToGoOn (x : ℕ) (s : State) : Type 0 where
 abbrev pub ResumeHops : Type 0
 ResumeHops =
     (x : ℕ) (s : State) → IsAboutToGoOn x s
-    → Hops s (length (resume x)) IsPageWord (found_there s) (store_word s.memory (page_word 7) (register_of s x))
+    → Hops s (length (jump_translated x)) IsPageWord (found_there s) (store_word s.memory (page_word 7) (register_of s x))

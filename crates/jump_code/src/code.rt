@@ -5,7 +5,7 @@ ghost use Rattle.v8_decode.specs.Words.{decode_of};
 ghost use Rattle.v8_encode.specs.Code.{op2_fits};
 ghost use Rattle.code_runs.specs.LongJump.{long_jump};
 ghost use Rattle.layout.specs.Emitting.{words_of};
-ghost use Rattle.jump_code.specs.Finding.{find_words, resume};
+ghost use Rattle.jump_code.specs.Finding.{find_words, jump_translated};
 ghost use Rattle.jump_code.specs.Leaving.{foreign};
 ghost use Rattle.jump_code.specs.Links.{link};
 
@@ -17,7 +17,7 @@ use v8_encode::{jump, load, operation, register, sethi, words};
 
 /// The first words of a JMPL: they look its target up in the table of two levels at `table`, through two registers that
 /// it doesn't name.
-pub fn look_up_code(x: Reg, y: Reg, rs1: Reg, op2: Op2, table: Addr) -> [u32; 12]
+pub fn translate_target_code(x: Reg, y: Reg, rs1: Reg, op2: Op2, table: Addr) -> [u32; 12]
     requires fits { IsTrue (op2_fits op2) }
     ensures words { result ≡ words_of (find_words x y rs1 op2 table.0) }
     ensures decodes { map decode_of result ≡ find_words x y rs1 op2 table.0 }
@@ -39,9 +39,9 @@ pub fn look_up_code(x: Reg, y: Reg, rs1: Reg, op2: Op2, table: Addr) -> [u32; 12
 }
 
 /// The jump behind the copy of a slot's word to what was found.
-pub fn resume_code(x: Reg) -> [u32; 3]
-    ensures words { result ≡ words_of (resume x) }
-    ensures decodes { map decode_of result ≡ resume x }
+pub fn jump_translated_code(x: Reg) -> [u32; 3]
+    ensures words { result ≡ words_of (jump_translated x) }
+    ensures decodes { map decode_of result ≡ jump_translated x }
 {
     words(&[exchange(x, 7), jump(x, Op2::Imm(0)), take(x, 7)])
 }

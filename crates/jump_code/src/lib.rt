@@ -13,9 +13,11 @@ mod registers;
 mod single;
 mod switches;
 
-pub use code::{call_code, foreign_code, link_code, long_jump_code, look_up_code, resume_code};
+pub use code::{
+    call_code, foreign_code, jump_translated_code, link_code, long_jump_code, translate_target_code,
+};
 pub use registers::{free_register, other_register};
-pub use switches::{choose_code, save_load_address_code};
+pub use switches::{jump_by_case_code, save_load_address_code};
 
 /// The words of a JMPL write its link, and keep its target and what the table has for the target. Where the target
 /// isn't aligned, they end the run as the JMPL does.

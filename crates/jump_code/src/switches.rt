@@ -4,7 +4,7 @@ ghost use Rattle.std.specs.Prelude.{◌≡◌, IsTrue, map};
 ghost use Rattle.v8_decode.specs.Words.{decode_of};
 ghost use Rattle.v8_encode.specs.Code.{op2_fits};
 ghost use Rattle.layout.specs.Emitting.{words_of};
-ghost use Rattle.jump_code.specs.Choosing.{choose};
+ghost use Rattle.jump_code.specs.Choosing.{jump_by_case};
 ghost use Rattle.jump_code.specs.Keeping.{save_load_address};
 
 use crate::single::{add, add_low, exchange, keep, take};
@@ -23,9 +23,9 @@ pub fn save_load_address_code(rs1: Reg, op2: Op2) -> [u32; 3]
 
 /// The words of a switch's JMPL, behind its link. From the address that was kept it is so far, modulo 2^32, to the word
 /// that says where they go on.
-pub fn choose_code(distance: u32) -> [u32; 9]
-    ensures words { result ≡ words_of (choose distance) }
-    ensures decodes { map decode_of result ≡ choose distance }
+pub fn jump_by_case_code(distance: u32) -> [u32; 9]
+    ensures words { result ≡ words_of (jump_by_case distance) }
+    ensures decodes { map decode_of result ≡ jump_by_case distance }
 {
     let g1 = register(1);
     let g2 = register(2);

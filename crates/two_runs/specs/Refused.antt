@@ -37,8 +37,8 @@ IsFaulted s = (calls_on_word s (fetch_of s.memory s.pc) ≡ true) × (step_of s 
 -- ---- runs of which nothing is refused
 
 -- none of the first n steps is a system call that answers EFAULT
-abbrev pub HasBuffers : State → ℕ → Type 0
-HasBuffers s0 n = (k : ℕ) → k < n → ¬ IsFaulted (run s0 k)
+abbrev pub NoBufferRefused : State → ℕ → Type 0
+NoBufferRefused s0 n = (k : ℕ) → k < n → ¬ IsFaulted (run s0 k)
 
 -- Here no page can be added: memory has a byte there, or the address lies below 4096.
 abbrev pub IsNoRoom : Memory → ℕ → Type 0
@@ -50,7 +50,7 @@ pub record IsGranted (s0 : State) (n : ℕ) : Type 0 where
   pub accesses : is_refusal (run s0 n).ending ≡ false
   pub fetch : (run s0 (suc n)).ending ≡ Some (Trap instruction_access_exception)
       → IsNoRoom (run s0 n).memory (run s0 n).pc
-  pub buffers : HasBuffers s0 n
+  pub buffers : NoBufferRefused s0 n
 
 -- ---- runs of which nothing is refused in some pages
 

@@ -1,5 +1,5 @@
 -- Where regions are apart, one of them at most has given bytes.
-use Rattle.v8_memory.proofs.Common.{◌≡◌, ℕ, zero, suc, ◌+◌, ◌<◌, ◌≤◌, inl, inr, Bool, true, false, ◌&&◌, Option, Some, None, List, [], ◌∷◌, length, map, take, drop, ◌++◌, get_or, slice_set, refl, ap, sym, ◌∙◌, arith, if◌then◌else◌, filter, find, option_map, and_parts, and_right, cases_Bool, cond_both, cond-true, false_from_ne_true, both_ways, drop_all, Op, Fills, AreKept, Memory, Region, covers, changed, written, all_written, write_region, with_bytes, if_allowed, is_code, region_at, Mapping, heap_start, heap_room, region_of, Span, is_apart, is_apart_from, are_apart, heap_span, span_of, span_of_mapping, regions_apart, mappings_apart}
+use Rattle.v8_memory.proofs.Common.{◌≡◌, ℕ, zero, suc, ◌+◌, ◌<◌, ◌≤◌, inl, inr, Bool, true, false, ◌&&◌, Option, Some, None, List, [], ◌∷◌, length, map, take, drop, ◌++◌, get_or, slice_set, refl, ap, sym, ◌∙◌, arith, if◌then◌else◌, filter, find, option_map, and_parts, and_right, cases_Bool, cond_both, cond-true, false_from_ne_true, both_ways, drop_all, Predecoded, Fills, AreKept, Memory, Region, covers, changed, written, all_written, write_region, with_bytes, if_allowed, is_code, region_at, Mapping, heap_start, heap_room, region_of, Span, is_apart, is_apart_from, are_apart, heap_span, span_of, span_of_mapping, regions_apart, mappings_apart}
 use Rattle.std.proofs.lemmas.Bool.Decides.{nat_tests}
 use Rattle.v8_memory.proofs.Kept.{kept_written, written_through}
 
@@ -135,14 +135,14 @@ apart_written address bytes old new is h =
     rw (is, spans_stay address bytes old) h
 
 -- what a memory's invariant says of its regions stays where one of them is written in its place
-pub stay_at : (address : ℕ) (bytes : List ℕ) (items new : List Region) (first : ℕ) (kept : List Op)
+pub stay_at : (address : ℕ) (bytes : List ℕ) (items new : List Region) (first : ℕ) (kept : List Predecoded)
     → new ≡ map (written address bytes) items → regions_apart items ≡ true → AreKept (filter is_code items) first kept
     → (regions_apart new ≡ true) × AreKept (filter is_code new) first kept
 stay_at address bytes items new first kept is apart are =
     (apart_written address bytes items new is apart, kept_written address bytes items new first kept is are)
 
 -- and where they are written through a slice of them all
-pub all_stay : (address : ℕ) (bytes : List ℕ) (count : ℕ) (items slice new : List Region) (first : ℕ) (kept : List Op)
+pub all_stay : (address : ℕ) (bytes : List ℕ) (count : ℕ) (items slice new : List Region) (first : ℕ) (kept : List Predecoded)
     → length items ≡ count → slice ≡ items → new ≡ map (written address bytes) slice → regions_apart items ≡ true
     → AreKept (filter is_code items) first kept
     → (regions_apart (take count (new ++ drop (length new) items)) ≡ true)

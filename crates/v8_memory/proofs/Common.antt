@@ -14,4 +14,4 @@ pub use Rattle.v8_memory.specs.Regions.{all_written, changed, covers, if_allowed
 unfoldable pub use Rattle.v8_memory.specs.Regions.{bytes_at, with_bytes}
 pub use Rattle.v8_memory.specs.Segments.{empty_heap, heap_room, heap_start, region_of}
 pub use Rattle.v8_memory.specs.Spans.{IsApartFromAll, Span}
-pub use Rattle.v8_memory.specs.declared.ops.Op.{Op}
+pub use Rattle.v8_memory.specs.declared.ops.Predecoded.{Predecoded}

@@ -9,7 +9,7 @@ use Rattle.v8_decode.specs.declared.Op2.{Op2}
 use Rattle.v8_decode.specs.declared.Op2.TheVariants.{Reg, Imm}
 use Rattle.v8_decode.specs.declared.Instr.{Instr}
 use Rattle.v8_decode.specs.declared.Instr.TheVariants as i
-use Rattle.v8_memory.specs.declared.ops.Op.{Op}
+use Rattle.v8_memory.specs.declared.ops.Predecoded.{Predecoded}
 use Rattle.v8_memory.specs.declared.ops.OpCode.{OpCode}
 use Rattle.v8_memory.specs.declared.ops.OpCode.TheVariants as c
 
@@ -18,11 +18,11 @@ abbrev pub operand_in : ℕ → ℤ → Op2
 operand_in zero imm = Imm imm
 operand_in (suc r) imm = Reg (suc r)
 
-abbrev pub alu_in : AluOp → Bool → Op → Instr
+abbrev pub alu_in : AluOp → Bool → Predecoded → Instr
 alu_in op cc x = i.Alu op cc x.rd x.rs1 (operand_in x.rs2 x.imm)
 
 -- what a code says of the fields beside it
-abbrev pub instr_by : OpCode → Op → Instr
+abbrev pub instr_by : OpCode → Predecoded → Instr
 instr_by c.Sethi x = i.Sethi x.rd (cast_unsigned w32 x.imm)
 instr_by c.B0 x = i.Branch 0 (x.rd == 1) x.imm
 instr_by c.B1 x = i.Branch 1 (x.rd == 1) x.imm
@@ -87,7 +87,7 @@ instr_by c.Restore x = i.Restore x.rd x.rs1 (operand_in x.rs2 x.imm)
 instr_by c.Other x = i.Illegal
 
 -- the instruction that a record stands for
-unfoldable pub instr_of : Op → Instr
+unfoldable pub instr_of : Predecoded → Instr
 instr_of x = instr_by x.code x
 
 -- A second operand that is %g0 and the immediate 0 mean the same. Here it is the immediate.
@@ -111,6 +111,6 @@ abbrev pub IsSum : ℕ → ℤ → Type 0
 IsSum rs2 imm = (rs2 ≡ 0) ⊎ (imm ≡ pos 0)
 
 -- a record of this instruction
-pub record Stands (x : Op) (instr : Instr) : Type 0 where
+pub record Stands (x : Predecoded) (instr : Instr) : Type 0 where
   pub same : instr_of x ≡ plain instr
   pub sum : IsSum x.rs2 x.imm

@@ -10,7 +10,7 @@ ghost use Rattle.v8_memory.specs.Segments.{region_of};
 ghost use Rattle.v8_memory.specs.Calls.{IsPlan, mapping_of_plan, memory_of, allowed, load_of, store_of, Exchanges, Loads, Stores, Fills, moved_heap_end};
 
 use crate::fault::MemFault;
-use crate::ops::{Op, no_op, op_of};
+use crate::ops::{Predecoded, no_op, op_of};
 use crate::region::{HEAP_ROOM, HEAP_START, Region};
 use eel_base::{Addr, NoMemory};
 use elf32_sparc::SegFlags;
@@ -39,7 +39,7 @@ pub struct RegionPlan<'a> {
 #[derive(Drop)]
 pub struct Records {
     pub first: u32,
-    pub ops: Vec<Op>,
+    pub ops: Vec<Predecoded>,
 }
 
 impl Records {
@@ -225,7 +225,7 @@ impl Memory {
 
     /// Makes the records of the words around an address that is to be run, where there are none yet.
     #[inline]
-    pub fn keep_around(&mut self, address: Addr)
+    pub fn predecode_around(&mut self, address: Addr)
         ensures { self.new ≡ self.old }
     {
         let block = address.0.wrapping_sub(self.records.first) / 4 / BLOCK;
@@ -513,10 +513,10 @@ impl Memory {
 /// The record at a place among those that begin with that of the word at `first`.
 #[inline(always)]
 #[tactic(auto, using(crate::proofs::Kept::kept_at))]
-pub fn op_in(ops: &[Op], first: u32, place: usize) -> &Op
+pub fn op_in(ops: &[Predecoded], first: u32, place: usize) -> &Predecoded
     requires within { place < length ops.now }
     ensures kept { (code : List Region) → AreKept code first ops.now → IsKept code ((first + 4 * place) % 2 ^ 32) result.now }
-    ensures item { (other : Op) → result.now ≡ get_or ops.now place other }
+    ensures item { (other : Predecoded) → result.now ≡ get_or ops.now place other }
 {
     &ops[place]
 }
@@ -593,7 +593,7 @@ fn code_region(regions: &[Region]) -> Option<&Region>
 
 /// Records of so many words that say nothing yet, and one more, so that no run goes on in order beyond them.
 #[tactic(auto, using(crate::proofs::Kept::kept_nothing))]
-fn unmade(alloc: Global, count: u32) -> Result<Vec<Op>, NoMemory>
+fn unmade(alloc: Global, count: u32) -> Result<Vec<Predecoded>, NoMemory>
     ensures { IfOk result (λ ops. (code : List Region) (first : ℕ) → AreKept code first ops.items) }
 {
     let ops = vec![in alloc; no_op(); count as usize + 1]?;
@@ -608,7 +608,7 @@ fn unmade_blocks(alloc: Global, count: u32) -> Result<Vec<bool>, NoMemory> {
 }
 
 /// The record of the word at an address.
-fn kept_word(regions: &[Region], address: u32) -> Op
+fn kept_word(regions: &[Region], address: u32) -> Predecoded
     ensures { IsKept (filter is_code regions.now) address result }
 {
     match fetch_in(regions, address) {

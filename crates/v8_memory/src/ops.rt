@@ -76,7 +76,7 @@ pub enum OpCode {
 /// An instruction whose second operand is the sum of `rs2` and `imm`, one of which is %g0 or 0. A branch has a
 /// code for each condition, and its annul bit in the place of `rd`; a doubleword has half of its rd there.
 #[derive(Clone, Copy, Drop)]
-pub struct Op {
+pub struct Predecoded {
     pub code: OpCode,
     pub rd: Reg,
     pub rs1: Reg,
@@ -87,7 +87,7 @@ pub struct Op {
 /// The record of an instruction; `Other` where there is none.
 #[inline]
 #[tactic(auto, unfolding(crate::specs::Ops::instr_of))]
-pub fn op_of(instr: Instr) -> Op
+pub fn op_of(instr: Instr) -> Predecoded
     requires { IsTrue (has_even_pair instr) }
     ensures sum { IsSum result.rs2 result.imm }
     ensures stands { (result.code ≡ OpCode.Other) ⊎ Stands result instr }
@@ -128,7 +128,7 @@ fn half(rd: Reg) -> Reg
 }
 
 /// The record that says nothing.
-pub fn no_op() -> Op
+pub fn no_op() -> Predecoded
     ensures code { result.code ≡ OpCode.Other }
     ensures sum { IsSum result.rs2 result.imm }
 {
@@ -136,10 +136,10 @@ pub fn no_op() -> Op
 }
 
 /// A record with an immediate, and %g0 beside it.
-fn immediate(code: OpCode, rd: Reg, imm: i32) -> Op
+fn immediate(code: OpCode, rd: Reg, imm: i32) -> Predecoded
     ensures { result ≡ record { code = code; rd = rd; rs1 = 0; rs2 = 0; imm = imm } }
 {
-    Op {
+    Predecoded {
         code,
         rd,
         rs1: register(0),
@@ -150,7 +150,7 @@ fn immediate(code: OpCode, rd: Reg, imm: i32) -> Op
 
 /// A record with a second operand.
 #[tactic(auto, using(crate::proofs::Kept::register_operand))]
-fn with_operand(code: OpCode, rd: Reg, rs1: Reg, op2: Op2) -> Op
+fn with_operand(code: OpCode, rd: Reg, rs1: Reg, op2: Op2) -> Predecoded
     ensures code { result.code ≡ code }
     ensures rd { result.rd ≡ rd }
     ensures rs1 { result.rs1 ≡ rs1 }
@@ -158,14 +158,14 @@ fn with_operand(code: OpCode, rd: Reg, rs1: Reg, op2: Op2) -> Op
     ensures sum { IsSum result.rs2 result.imm }
 {
     match op2 {
-        Op2::Reg(rs2) => Op {
+        Op2::Reg(rs2) => Predecoded {
             code,
             rd,
             rs1,
             rs2,
             imm: 0,
         },
-        Op2::Imm(imm) => Op {
+        Op2::Imm(imm) => Predecoded {
             code,
             rd,
             rs1,
@@ -177,7 +177,7 @@ fn with_operand(code: OpCode, rd: Reg, rs1: Reg, op2: Op2) -> Op
 
 /// The code of a branch on this condition.
 fn branch_code(cond: Cond) -> OpCode
-    ensures { (result ≡ OpCode.Other) ⊎ ((x : Op) → instr_by result x ≡ instrs.Branch cond (x.rd == 1) x.imm) }
+    ensures { (result ≡ OpCode.Other) ⊎ ((x : Predecoded) → instr_by result x ≡ instrs.Branch cond (x.rd == 1) x.imm) }
 {
     match cond.number() {
         0 => OpCode::B0,
@@ -208,7 +208,7 @@ fn annul_place(annul: bool) -> Reg
 }
 
 fn alu_code(op: AluOp, cc: bool) -> OpCode
-    ensures { (result ≡ OpCode.Other) ⊎ ((x : Op) → instr_by result x ≡ alu_in op cc x) }
+    ensures { (result ≡ OpCode.Other) ⊎ ((x : Predecoded) → instr_by result x ≡ alu_in op cc x) }
 {
     match (op, cc) {
         (AluOp::ADD, false) => OpCode::Add,
@@ -243,7 +243,7 @@ fn alu_code(op: AluOp, cc: bool) -> OpCode
 }
 
 #[tactic(auto, unfolding(crate::specs::Ops::instr_of))]
-fn load_op(kind: LoadKind, rd: Reg, rs1: Reg, op2: Op2) -> Op
+fn load_op(kind: LoadKind, rd: Reg, rs1: Reg, op2: Op2) -> Predecoded
     requires { kind ≡ LoadKind.LDD → rd % 2 ≡ 0 }
     ensures sum { IsSum result.rs2 result.imm }
     ensures same { instr_of result ≡ instrs.Load kind rd rs1 (plain_operand op2) }
@@ -259,7 +259,7 @@ fn load_op(kind: LoadKind, rd: Reg, rs1: Reg, op2: Op2) -> Op
 }
 
 #[tactic(auto, unfolding(crate::specs::Ops::instr_of))]
-fn store_op(kind: StoreKind, rd: Reg, rs1: Reg, op2: Op2) -> Op
+fn store_op(kind: StoreKind, rd: Reg, rs1: Reg, op2: Op2) -> Predecoded
     requires { kind ≡ StoreKind.STD → rd % 2 ≡ 0 }
     ensures sum { IsSum result.rs2 result.imm }
     ensures same { instr_of result ≡ instrs.Store kind rd rs1 (plain_operand op2) }

@@ -27,7 +27,7 @@ pub use Rattle.v8_memory.specs.Regions.{all_written, buffer_read, buffer_written
 unfoldable pub use Rattle.v8_memory.specs.Regions.{bytes_at, fetch_of, with_bytes}
 pub use Rattle.v8_memory.specs.Segments.{empty_heap, heap_room}
 pub use Rattle.v8_memory.specs.Spans.{AllApart, IsApartFromAll, Span}
-pub use Rattle.v8_memory.specs.declared.ops.Op.{Op}
+pub use Rattle.v8_memory.specs.declared.ops.Predecoded.{Predecoded}
 pub use Rattle.v8_memory.specs.declared.ops.OpCode.{OpCode}
 pub use Rattle.v8_memory.specs.declared.ops.OpCode.TheVariants.{Other}
 pub use Rattle.v8_step.specs.Accesses.{exchange_step, extended, load_size, loaded, on_bytes, on_memory, store_size, stored, word_of}

@@ -1,5 +1,5 @@
 -- Steps in order, with pc and npc as places among the records.
-use Rattle.v8_step.proofs.Common.{◌≡◌, ◌+◌, ◌-◌, ◌*◌, ◌/◌, ◌%◌, ◌^◌, ◌<◌, ◌≤◌, ◌⊎◌, inl, inr, ℕ, ℤ, pos, negsuc, Bool, false, List, None, get_or, sym, ap, ◌∙◌, subst, arith, cases_lt, le-ltb, lt-ltb, FitsSigned, IsTrue, if◌then◌else◌, cast_unsigned, w32, w64, Result, Ok, Err, AluOut, AluTrap, Codes, wrapped, Instr, Op, Other, AreKept, IsKept, instr_of, is_record, code_of, Cursor, On, Stop, GoesOn, HasTurned, address_at, at_here, at_places, placed, slot_by, slot_of, State, Slot, NoSlot, act, IsQuietRun}
+use Rattle.v8_step.proofs.Common.{◌≡◌, ◌+◌, ◌-◌, ◌*◌, ◌/◌, ◌%◌, ◌^◌, ◌<◌, ◌≤◌, ◌⊎◌, inl, inr, ℕ, ℤ, pos, negsuc, Bool, false, List, None, get_or, sym, ap, ◌∙◌, subst, arith, cases_lt, le-ltb, lt-ltb, FitsSigned, IsTrue, if◌then◌else◌, cast_unsigned, w32, w64, Result, Ok, Err, AluOut, AluTrap, Codes, wrapped, Instr, Predecoded, Other, AreKept, IsKept, instr_of, is_record, code_of, Cursor, On, Stop, GoesOn, HasTurned, address_at, at_here, at_places, placed, slot_by, slot_of, State, Slot, NoSlot, act, IsQuietRun}
 use Rattle.std.proofs.lemmas.Int.{ints}
 use Rattle.v8_alu.specs.Alu.{alu_of, keeping, result_of}
 use Rattle.v8_decode.specs.declared.AluOp.{AluOp}
@@ -54,16 +54,16 @@ codes_kept op a b codes y o is = go (result_of op a b codes y) is
     go (Err t) e = absurd (cc)
 
 -- a turn that is made is of a record that says something
-abbrev pub IsSaid : Control → Op → Type 0
+abbrev pub IsSaid : Control → Predecoded → Type 0
 IsSaid t x = (t ≡ Stop) ⊎ IsTrue (is_record x.code)
 
-pub says : (t : Control) (x : Op) → IsSaid t x → (t ≡ Stop → ⊥) → x.code ≡ Other → ⊥
+pub says : (t : Control) (x : Predecoded) → IsSaid t x → (t ≡ Stop → ⊥) → x.code ≡ Other → ⊥
 says t x (inl stops) goes = absurd (goes stops)
 says t x (inr some) goes = says_some x.code some
 
 -- and so it isn't the last record, which says nothing
-pub not_last : (ops : List Op) (x last : Op) (cur len : ℕ) (t : Control) → ((d : Op) → x ≡ get_or ops cur d)
-    → ((d : Op) → last ≡ get_or ops (len - 1) d) → last.code ≡ Other → IsSaid t x → (t ≡ Stop → ⊥) → cur < len
+pub not_last : (ops : List Predecoded) (x last : Predecoded) (cur len : ℕ) (t : Control) → ((d : Predecoded) → x ≡ get_or ops cur d)
+    → ((d : Predecoded) → last ≡ get_or ops (len - 1) d) → last.code ≡ Other → IsSaid t x → (t ≡ Stop → ⊥) → cur < len
     → cur + 1 < len
 not_last ops x last cur len t is at_end other said goes within = elim (cases_lt (cur + 1) len) [
   | inl less ↦ less
@@ -71,7 +71,7 @@ not_last ops x last cur len t is at_end other said goes within = elim (cases_lt 
 ]
 
 -- one turn more: the run goes on, and the records are those of its memory
-pub comes_on : (s0 m t : State) (h : Cursor) (turn : Control) (c n made more : ℕ) (slot new : Slot) (x : Op) (ops : List Op)
+pub comes_on : (s0 m t : State) (h : Cursor) (turn : Control) (c n made more : ℕ) (slot new : Slot) (x : Predecoded) (ops : List Predecoded)
     → m.ending ≡ None → IsQuietRun s0 made (at_here m h) → AreKept (code_of m.memory) h.first ops
     → IsKept (code_of m.memory) (address_at h.first h.cur) x → act (at_here m h) (instr_of x) ≡ at_places t h.first c n slot
     → IsSaid turn x → (turn ≡ Stop → ⊥) → made + 1 ≡ more → slot ≡ new

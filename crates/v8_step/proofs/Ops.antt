@@ -1,5 +1,5 @@
 -- Instructions whose records the memory keeps.
-use Rattle.v8_step.proofs.Common.{◌≡◌, ◌+◌, ◌%◌, ◌^◌, ◌<◌, ℕ, zero, suc, ℤ, List, [], Option, Some, None, refl, sym, ap, ◌∙◌, inl, inr, arith, w32, cast_unsigned, Op2, Reg, Instr, decode_of, Op, OpCode, StandsFor, IsSum, instr_by, instr_of, operand_in, plain, plain_operand, fetch_of, Ending, State, operand_of, register_of, act, on_word, puts_by, puts_of, puts_on_word, puts_unless_ended, step_of}
+use Rattle.v8_step.proofs.Common.{◌≡◌, ◌+◌, ◌%◌, ◌^◌, ◌<◌, ℕ, zero, suc, ℤ, List, [], Option, Some, None, refl, sym, ap, ◌∙◌, inl, inr, arith, w32, cast_unsigned, Op2, Reg, Instr, decode_of, Predecoded, OpCode, StandsFor, IsSum, instr_by, instr_of, operand_in, plain, plain_operand, fetch_of, Ending, State, operand_of, register_of, act, on_word, puts_by, puts_of, puts_on_word, puts_unless_ended, step_of}
 use Rattle.v8_decode.specs.declared.Instr.TheVariants as i
 use Rattle.v8_memory.specs.declared.ops.OpCode.TheVariants as c
 
@@ -24,12 +24,12 @@ unfolding puts_by
 puts_plain s (i.Ticc cond rs1 op2) descriptor = refl
 puts_plain s x descriptor = refl
 
-op_puts : (s : State) (code : OpCode) (x : Op) (descriptor : ℕ) → puts_by s (instr_by code x) descriptor ≡ []
+op_puts : (s : State) (code : OpCode) (x : Predecoded) (descriptor : ℕ) → puts_by s (instr_by code x) descriptor ≡ []
 unfolding puts_by
 op_puts s c.Sethi x descriptor = refl
 op_puts s code x descriptor = refl
 
-pub kept_steps : (s : State) (op : Op) → s.ending ≡ None → StandsFor op (fetch_of s.memory s.pc)
+pub kept_steps : (s : State) (op : Predecoded) → s.ending ≡ None → StandsFor op (fetch_of s.memory s.pc)
     → act s (instr_of op) ≡ step_of s
 unfolding step_of
 kept_steps s op going stands = go (fetch_of s.memory s.pc) stands ∙ rw going
@@ -38,7 +38,7 @@ kept_steps s op going stands = go (fetch_of s.memory s.pc) stands ∙ rw going
     go None h = absurd h
     go (Some word) h = ap (act s) h.same ∙ act_plain s (decode_of word)
 
-pub kept_puts : (s : State) (op : Op) (descriptor : ℕ) → StandsFor op (fetch_of s.memory s.pc)
+pub kept_puts : (s : State) (op : Predecoded) (descriptor : ℕ) → StandsFor op (fetch_of s.memory s.pc)
     → puts_of s descriptor ≡ []
 unfolding puts_of instr_of
 kept_puts s op descriptor stands = ended s.ending (go (fetch_of s.memory s.pc) stands)

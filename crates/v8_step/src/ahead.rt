@@ -19,7 +19,7 @@ use crate::turns::{condition, pair};
 use eel_base::Addr;
 use v8_alu::{AluTrap, Codes, alu, difference_of, logic_value};
 use v8_decode::{AluOp, LoadKind, Reg, StoreKind};
-use v8_memory::{Op, OpCode, op_in};
+use v8_memory::{OpCode, Predecoded, op_in};
 
 /// What comes of carrying out one record.
 #[derive(Clone, Copy, Drop)]
@@ -84,73 +84,73 @@ impl Machine {
     /// Carries out the instruction of a record but for pc and npc. Where it stops nothing is changed.
     #[inline(always)]
     #[tactic(auto, unfolding(v8_memory::specs::Ops::instr_of))]
-    fn turn(&mut self, op: &Op, here: Cursor) -> Control
+    fn execute(&mut self, op: &Predecoded, here: Cursor) -> Control
         requires sum { IsSum op.now.rs2 op.now.imm }
         ensures turned { IsTurn result here self.old (instr_of op.now) self.new }
         ensures said { (result ≡ Control.Stop) ⊎ IsTrue (is_record op.now.code) }
     {
         match op.code {
-            OpCode::Sethi => self.sethi_turn(op, here),
-            OpCode::B0 => self.branch_turn(0, op, here),
-            OpCode::B1 => self.branch_turn(1, op, here),
-            OpCode::B2 => self.branch_turn(2, op, here),
-            OpCode::B3 => self.branch_turn(3, op, here),
-            OpCode::B4 => self.branch_turn(4, op, here),
-            OpCode::B5 => self.branch_turn(5, op, here),
-            OpCode::B6 => self.branch_turn(6, op, here),
-            OpCode::B7 => self.branch_turn(7, op, here),
-            OpCode::B8 => self.branch_turn(8, op, here),
-            OpCode::B9 => self.branch_turn(9, op, here),
-            OpCode::B10 => self.branch_turn(10, op, here),
-            OpCode::B11 => self.branch_turn(11, op, here),
-            OpCode::B12 => self.branch_turn(12, op, here),
-            OpCode::B13 => self.branch_turn(13, op, here),
-            OpCode::B14 => self.branch_turn(14, op, here),
-            OpCode::B15 => self.branch_turn(15, op, here),
-            OpCode::Call => self.call_turn(op.imm, here),
-            OpCode::Add => self.plain_turn(AluOp::ADD, op, here),
-            OpCode::AddCc => self.alu_turn(AluOp::ADD, op, here),
-            OpCode::Sub => self.plain_turn(AluOp::SUB, op, here),
-            OpCode::SubCc => self.compare_turn(op, here),
-            OpCode::And => self.plain_turn(AluOp::AND, op, here),
-            OpCode::AndCc => self.logic_turn(AluOp::AND, op, here),
-            OpCode::Or => self.plain_turn(AluOp::OR, op, here),
-            OpCode::OrCc => self.logic_turn(AluOp::OR, op, here),
-            OpCode::Xor => self.plain_turn(AluOp::XOR, op, here),
-            OpCode::XorCc => self.logic_turn(AluOp::XOR, op, here),
-            OpCode::Andn => self.plain_turn(AluOp::ANDN, op, here),
-            OpCode::AndnCc => self.logic_turn(AluOp::ANDN, op, here),
-            OpCode::Orn => self.plain_turn(AluOp::ORN, op, here),
-            OpCode::Xnor => self.plain_turn(AluOp::XNOR, op, here),
-            OpCode::XnorCc => self.logic_turn(AluOp::XNOR, op, here),
-            OpCode::Addx => self.plain_turn(AluOp::ADDX, op, here),
-            OpCode::AddxCc => self.alu_turn(AluOp::ADDX, op, here),
-            OpCode::Subx => self.plain_turn(AluOp::SUBX, op, here),
-            OpCode::SubxCc => self.alu_turn(AluOp::SUBX, op, here),
-            OpCode::Umul => self.plain_turn(AluOp::UMUL, op, here),
-            OpCode::Smul => self.plain_turn(AluOp::SMUL, op, here),
-            OpCode::Udiv => self.plain_turn(AluOp::UDIV, op, here),
-            OpCode::Sdiv => self.plain_turn(AluOp::SDIV, op, here),
-            OpCode::MulsCc => self.alu_turn(AluOp::MULScc, op, here),
-            OpCode::Sll => self.plain_turn(AluOp::SLL, op, here),
-            OpCode::Srl => self.plain_turn(AluOp::SRL, op, here),
-            OpCode::Sra => self.plain_turn(AluOp::SRA, op, here),
-            OpCode::ReadY => self.read_y_turn(op, here),
-            OpCode::WriteY => self.write_y_turn(op, here),
-            OpCode::Ld => self.load_turn(LoadKind::LD, op, here),
-            OpCode::Ldub => self.load_turn(LoadKind::LDUB, op, here),
-            OpCode::Lduh => self.load_turn(LoadKind::LDUH, op, here),
-            OpCode::Ldsb => self.load_turn(LoadKind::LDSB, op, here),
-            OpCode::Ldsh => self.load_turn(LoadKind::LDSH, op, here),
-            OpCode::Ldd => self.load_pair_turn(op, here),
-            OpCode::St => self.store_turn(StoreKind::ST, op.rd, op, here),
-            OpCode::Stb => self.store_turn(StoreKind::STB, op.rd, op, here),
-            OpCode::Sth => self.store_turn(StoreKind::STH, op.rd, op, here),
-            OpCode::Std => self.store_turn(StoreKind::STD, pair(op.rd), op, here),
-            OpCode::Swap => self.swap_turn(op, here),
-            OpCode::Jmpl => self.jump_turn(op, here),
-            OpCode::Save => self.save_turn(op, here),
-            OpCode::Restore => self.restore_turn(op, here),
+            OpCode::Sethi => self.execute_sethi(op, here),
+            OpCode::B0 => self.execute_branch(0, op, here),
+            OpCode::B1 => self.execute_branch(1, op, here),
+            OpCode::B2 => self.execute_branch(2, op, here),
+            OpCode::B3 => self.execute_branch(3, op, here),
+            OpCode::B4 => self.execute_branch(4, op, here),
+            OpCode::B5 => self.execute_branch(5, op, here),
+            OpCode::B6 => self.execute_branch(6, op, here),
+            OpCode::B7 => self.execute_branch(7, op, here),
+            OpCode::B8 => self.execute_branch(8, op, here),
+            OpCode::B9 => self.execute_branch(9, op, here),
+            OpCode::B10 => self.execute_branch(10, op, here),
+            OpCode::B11 => self.execute_branch(11, op, here),
+            OpCode::B12 => self.execute_branch(12, op, here),
+            OpCode::B13 => self.execute_branch(13, op, here),
+            OpCode::B14 => self.execute_branch(14, op, here),
+            OpCode::B15 => self.execute_branch(15, op, here),
+            OpCode::Call => self.execute_call(op.imm, here),
+            OpCode::Add => self.execute_plain(AluOp::ADD, op, here),
+            OpCode::AddCc => self.execute_alu(AluOp::ADD, op, here),
+            OpCode::Sub => self.execute_plain(AluOp::SUB, op, here),
+            OpCode::SubCc => self.execute_compare(op, here),
+            OpCode::And => self.execute_plain(AluOp::AND, op, here),
+            OpCode::AndCc => self.execute_logic(AluOp::AND, op, here),
+            OpCode::Or => self.execute_plain(AluOp::OR, op, here),
+            OpCode::OrCc => self.execute_logic(AluOp::OR, op, here),
+            OpCode::Xor => self.execute_plain(AluOp::XOR, op, here),
+            OpCode::XorCc => self.execute_logic(AluOp::XOR, op, here),
+            OpCode::Andn => self.execute_plain(AluOp::ANDN, op, here),
+            OpCode::AndnCc => self.execute_logic(AluOp::ANDN, op, here),
+            OpCode::Orn => self.execute_plain(AluOp::ORN, op, here),
+            OpCode::Xnor => self.execute_plain(AluOp::XNOR, op, here),
+            OpCode::XnorCc => self.execute_logic(AluOp::XNOR, op, here),
+            OpCode::Addx => self.execute_plain(AluOp::ADDX, op, here),
+            OpCode::AddxCc => self.execute_alu(AluOp::ADDX, op, here),
+            OpCode::Subx => self.execute_plain(AluOp::SUBX, op, here),
+            OpCode::SubxCc => self.execute_alu(AluOp::SUBX, op, here),
+            OpCode::Umul => self.execute_plain(AluOp::UMUL, op, here),
+            OpCode::Smul => self.execute_plain(AluOp::SMUL, op, here),
+            OpCode::Udiv => self.execute_plain(AluOp::UDIV, op, here),
+            OpCode::Sdiv => self.execute_plain(AluOp::SDIV, op, here),
+            OpCode::MulsCc => self.execute_alu(AluOp::MULScc, op, here),
+            OpCode::Sll => self.execute_plain(AluOp::SLL, op, here),
+            OpCode::Srl => self.execute_plain(AluOp::SRL, op, here),
+            OpCode::Sra => self.execute_plain(AluOp::SRA, op, here),
+            OpCode::ReadY => self.execute_read_y(op, here),
+            OpCode::WriteY => self.execute_write_y(op, here),
+            OpCode::Ld => self.execute_load(LoadKind::LD, op, here),
+            OpCode::Ldub => self.execute_load(LoadKind::LDUB, op, here),
+            OpCode::Lduh => self.execute_load(LoadKind::LDUH, op, here),
+            OpCode::Ldsb => self.execute_load(LoadKind::LDSB, op, here),
+            OpCode::Ldsh => self.execute_load(LoadKind::LDSH, op, here),
+            OpCode::Ldd => self.execute_load_pair(op, here),
+            OpCode::St => self.execute_store(StoreKind::ST, op.rd, op, here),
+            OpCode::Stb => self.execute_store(StoreKind::STB, op.rd, op, here),
+            OpCode::Sth => self.execute_store(StoreKind::STH, op.rd, op, here),
+            OpCode::Std => self.execute_store(StoreKind::STD, pair(op.rd), op, here),
+            OpCode::Swap => self.execute_swap(op, here),
+            OpCode::Jmpl => self.execute_jump(op, here),
+            OpCode::Save => self.execute_save(op, here),
+            OpCode::Restore => self.execute_restore(op, here),
             OpCode::Other => Control::Stop,
         }
     }
@@ -167,7 +167,7 @@ impl Machine {
 
     #[inline(always)]
     #[tactic(auto, using(crate::proofs::InOrder::goes_on), unfolding(crate::specs::Step::act))]
-    fn sethi_turn(&mut self, op: &Op, here: Cursor) -> Control
+    fn execute_sethi(&mut self, op: &Predecoded, here: Cursor) -> Control
         ensures { IsTurn result here self.old (instrs.Sethi op.now.rd (cast_unsigned w32 op.now.imm)) self.new }
     {
         self.set(op.rd, op.imm.cast_unsigned().wrapping_mul(1024));
@@ -176,7 +176,7 @@ impl Machine {
 
     #[inline(always)]
     #[tactic(auto, using(crate::proofs::InOrder::goes_on), unfolding(crate::specs::Step::act))]
-    fn read_y_turn(&mut self, op: &Op, here: Cursor) -> Control
+    fn execute_read_y(&mut self, op: &Predecoded, here: Cursor) -> Control
         ensures { IsTurn result here self.old (instrs.ReadY op.now.rd) self.new }
     {
         self.set(op.rd, self.y);
@@ -185,7 +185,7 @@ impl Machine {
 
     #[inline(always)]
     #[tactic(auto, using(crate::proofs::InOrder::goes_on), unfolding(crate::specs::Step::act))]
-    fn write_y_turn(&mut self, op: &Op, here: Cursor) -> Control
+    fn execute_write_y(&mut self, op: &Predecoded, here: Cursor) -> Control
         requires sum { IsSum op.now.rs2 op.now.imm }
         ensures { IsTurn result here self.old (instrs.WriteY op.now.rs1 (operand_in op.now.rs2 op.now.imm)) self.new }
     {
@@ -195,7 +195,7 @@ impl Machine {
 
     #[inline(always)]
     #[tactic(auto, using(crate::proofs::InOrder::goes_on), unfolding(crate::specs::Step::act, crate::specs::Step::alu_step))]
-    fn alu_turn(&mut self, kind: AluOp, op: &Op, here: Cursor) -> Control
+    fn execute_alu(&mut self, kind: AluOp, op: &Predecoded, here: Cursor) -> Control
         requires form { IsTrue (has_form kind true) }
         requires sum { IsSum op.now.rs2 op.now.imm }
         ensures { IsTurn result here self.old (alu_in kind true op.now) self.new }
@@ -216,7 +216,7 @@ impl Machine {
     /// A logical operation that sets the codes, which are worked out where they are read.
     #[inline(always)]
     #[tactic(auto, using(crate::proofs::InOrder::goes_on), unfolding(crate::specs::Step::act, crate::specs::Step::alu_step))]
-    fn logic_turn(&mut self, kind: AluOp, op: &Op, here: Cursor) -> Control
+    fn execute_logic(&mut self, kind: AluOp, op: &Predecoded, here: Cursor) -> Control
         requires sum { IsSum op.now.rs2 op.now.imm }
         ensures { IsTurn result here self.old (alu_in kind true op.now) self.new }
     {
@@ -232,7 +232,7 @@ impl Machine {
 
     #[inline(always)]
     #[tactic(auto, using(crate::proofs::InOrder::goes_on), unfolding(crate::specs::Step::act, crate::specs::Step::alu_step))]
-    fn plain_turn(&mut self, kind: AluOp, op: &Op, here: Cursor) -> Control
+    fn execute_plain(&mut self, kind: AluOp, op: &Predecoded, here: Cursor) -> Control
         requires form { IsTrue (has_form kind false) }
         requires sum { IsSum op.now.rs2 op.now.imm }
         ensures { IsTurn result here self.old (alu_in kind false op.now) self.new }
@@ -252,7 +252,7 @@ impl Machine {
     /// SUBcc, whose codes are worked out where they are read.
     #[inline(always)]
     #[tactic(auto, using(crate::proofs::InOrder::goes_on), unfolding(crate::specs::Step::act, crate::specs::Step::alu_step, v8_alu::specs::Alu::alu_of))]
-    fn compare_turn(&mut self, op: &Op, here: Cursor) -> Control
+    fn execute_compare(&mut self, op: &Predecoded, here: Cursor) -> Control
         requires sum { IsSum op.now.rs2 op.now.imm }
         ensures { IsTurn result here self.old (alu_in AluOp.SUB true op.now) self.new }
     {
@@ -265,7 +265,7 @@ impl Machine {
 
     #[inline(always)]
     #[tactic(auto, using(crate::proofs::InOrder::goes_on), unfolding(crate::specs::Step::act, crate::specs::Accesses::load_step))]
-    fn load_turn(&mut self, kind: LoadKind, op: &Op, here: Cursor) -> Control
+    fn execute_load(&mut self, kind: LoadKind, op: &Predecoded, here: Cursor) -> Control
         requires single { kind ≡ LoadKind.LDD → ⊥ }
         requires sum { IsSum op.now.rs2 op.now.imm }
         ensures { IsTurn result here self.old (instrs.Load kind op.now.rd op.now.rs1 (operand_in op.now.rs2 op.now.imm)) self.new }
@@ -281,7 +281,7 @@ impl Machine {
 
     #[inline(always)]
     #[tactic(auto, using(crate::proofs::InOrder::goes_on), unfolding(crate::specs::Step::act, crate::specs::Accesses::load_step))]
-    fn load_pair_turn(&mut self, op: &Op, here: Cursor) -> Control
+    fn execute_load_pair(&mut self, op: &Predecoded, here: Cursor) -> Control
         requires sum { IsSum op.now.rs2 op.now.imm }
         ensures { IsTurn result here self.old (instrs.Load LoadKind.LDD (2 * (op.now.rd % 16)) op.now.rs1 (operand_in op.now.rs2 op.now.imm)) self.new }
     {
@@ -298,7 +298,7 @@ impl Machine {
 
     #[inline(always)]
     #[tactic(auto, using(crate::proofs::InOrder::goes_on), unfolding(crate::specs::Step::act, crate::specs::Accesses::store_step))]
-    fn store_turn(&mut self, kind: StoreKind, rd: Reg, op: &Op, here: Cursor) -> Control
+    fn execute_store(&mut self, kind: StoreKind, rd: Reg, op: &Predecoded, here: Cursor) -> Control
         requires pair { kind ≡ StoreKind.STD → rd % 2 ≡ 0 }
         requires sum { IsSum op.now.rs2 op.now.imm }
         ensures { IsTurn result here self.old (instrs.Store kind rd op.now.rs1 (operand_in op.now.rs2 op.now.imm)) self.new }
@@ -311,7 +311,7 @@ impl Machine {
 
     #[inline(always)]
     #[tactic(auto, using(crate::proofs::InOrder::goes_on), unfolding(crate::specs::Step::act, crate::specs::Accesses::swap_step))]
-    fn swap_turn(&mut self, op: &Op, here: Cursor) -> Control
+    fn execute_swap(&mut self, op: &Predecoded, here: Cursor) -> Control
         requires sum { IsSum op.now.rs2 op.now.imm }
         ensures { IsTurn result here self.old (instrs.Swap op.now.rd op.now.rs1 (operand_in op.now.rs2 op.now.imm)) self.new }
     {
@@ -327,7 +327,7 @@ impl Machine {
 
     #[inline(always)]
     #[tactic(auto, using(crate::proofs::InOrder::goes_on), unfolding(crate::specs::Step::act))]
-    fn save_turn(&mut self, op: &Op, here: Cursor) -> Control
+    fn execute_save(&mut self, op: &Predecoded, here: Cursor) -> Control
         requires sum { IsSum op.now.rs2 op.now.imm }
         ensures { IsTurn result here self.old (instrs.Save op.now.rd op.now.rs1 (operand_in op.now.rs2 op.now.imm)) self.new }
     {
@@ -340,7 +340,7 @@ impl Machine {
 
     #[inline(always)]
     #[tactic(auto, using(crate::proofs::InOrder::goes_on), unfolding(crate::specs::Step::act))]
-    fn restore_turn(&mut self, op: &Op, here: Cursor) -> Control
+    fn execute_restore(&mut self, op: &Predecoded, here: Cursor) -> Control
         requires sum { IsSum op.now.rs2 op.now.imm }
         ensures { IsTurn result here self.old (instrs.Restore op.now.rd op.now.rs1 (operand_in op.now.rs2 op.now.imm)) self.new }
     {
@@ -354,7 +354,7 @@ impl Machine {
     /// A branch on the condition with this number. Where it is inlined, this is a constant.
     #[inline(always)]
     #[tactic(auto, using(crate::proofs::InOrder::target_place, crate::proofs::InOrder::next_address, crate::proofs::InOrder::after_annulled), unfolding(crate::specs::Step::act, crate::specs::Transfers::branch_step))]
-    fn branch_turn(&mut self, cond: u8, op: &Op, here: Cursor) -> Control
+    fn execute_branch(&mut self, cond: u8, op: &Predecoded, here: Cursor) -> Control
         requires { cond < 16 }
         ensures { IsTurn result here self.old (instrs.Branch cond (op.now.rd == 1) op.now.imm) self.new }
     {
@@ -385,7 +385,7 @@ impl Machine {
 
     #[inline(always)]
     #[tactic(auto, using(crate::proofs::InOrder::target_place), unfolding(crate::specs::Step::act, crate::specs::Transfers::call_step))]
-    fn call_turn(&mut self, disp30: i32, here: Cursor) -> Control
+    fn execute_call(&mut self, disp30: i32, here: Cursor) -> Control
         ensures { IsTurn result here self.old (instrs.Call disp30) self.new }
     {
         let place = here.place(disp30);
@@ -398,7 +398,7 @@ impl Machine {
 
     #[inline(always)]
     #[tactic(auto, using(crate::proofs::InOrder::jump_place), unfolding(crate::specs::Step::act, crate::specs::Transfers::jump_step))]
-    fn jump_turn(&mut self, op: &Op, here: Cursor) -> Control
+    fn execute_jump(&mut self, op: &Predecoded, here: Cursor) -> Control
         requires sum { IsSum op.now.rs2 op.now.imm }
         ensures { IsTurn result here self.old (instrs.Jmpl op.now.rd op.now.rs1 (operand_in op.now.rs2 op.now.imm)) self.new }
     {
@@ -447,7 +447,7 @@ fn address(first: u32, place: usize) -> u32
 /// stops before an instruction that it doesn't make.
 #[inline(never)]
 #[tactic(auto, using(crate::proofs::QuietRuns::no_step))]
-pub(crate) fn go_far(ops: &[Op], first: u32, m: &mut Machine, limit: u64) -> u64
+pub(crate) fn run_predecoded(ops: &[Predecoded], first: u32, m: &mut Machine, limit: u64) -> u64
     requires going { m.old.ending ≡ None }
     requires kept { AreKept (code_of m.old.memory) first ops.now }
     requires far { limit ≤ 2 ^ 62 }
@@ -489,7 +489,7 @@ pub(crate) fn go_far(ops: &[Op], first: u32, m: &mut Machine, limit: u64) -> u64
             slot_end,
             slot,
         };
-        match m.turn(op, here) {
+        match m.execute(op, here) {
             Control::On => {
                 cur = next;
                 next += 1;

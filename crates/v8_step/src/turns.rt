@@ -4,11 +4,11 @@ ghost use Rattle.v8_memory.specs.Ops.{IsSum, operand_in};
 ghost use Rattle.v8_step.specs.State.{operand_of, sum_of};
 ghost use Rattle.v8_step.specs.Turns.{IsQuietRun};
 
-use crate::ahead::go_far;
+use crate::ahead::run_predecoded;
 use crate::machine::{Machine, register};
 use eel_base::Addr;
 use v8_decode::{Cond, Reg};
-use v8_memory::Op;
+use v8_memory::Predecoded;
 
 /// How many steps are made at once at most, so that sums of steps and places fit.
 const MOST_AT_ONCE: u64 = 1 << 62;
@@ -22,18 +22,18 @@ impl Machine {
         ensures run { IsQuietRun self.old result self.new }
         ensures few { result ≤ limit }
     {
-        self.memory.keep_around(Addr(self.pc));
+        self.memory.predecode_around(Addr(self.pc));
         let records = self.memory.take_records();
         let most = limit.min(MOST_AT_ONCE);
-        let steps = go_far(&records.ops, records.first, self, most);
+        let steps = run_predecoded(&records.ops, records.first, self, most);
         self.memory.put_records(records);
-        self.memory.keep_around(Addr(self.pc));
+        self.memory.predecode_around(Addr(self.pc));
         steps
     }
 
     /// The sum of rs1 and the second operand.
     #[inline(always)]
-    pub(crate) fn op_sum(&self, op: &Op) -> u32
+    pub(crate) fn op_sum(&self, op: &Predecoded) -> u32
         requires sum { IsSum op.now.rs2 op.now.imm }
         ensures { result ≡ sum_of self.now op.now.rs1 (operand_in op.now.rs2 op.now.imm) }
     {
@@ -43,7 +43,7 @@ impl Machine {
     /// The second operand: one of the two is 0.
     #[inline(always)]
     #[tactic(auto, using(crate::proofs::Ops::operand_sum))]
-    pub(crate) fn op_operand(&self, op: &Op) -> u32
+    pub(crate) fn op_operand(&self, op: &Predecoded) -> u32
         requires sum { IsSum op.now.rs2 op.now.imm }
         ensures { result ≡ operand_of self.now (operand_in op.now.rs2 op.now.imm) }
     {

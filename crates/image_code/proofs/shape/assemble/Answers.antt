@@ -1,8 +1,8 @@
-use Rattle.image_code.proofs.Common.{◌≡◌, Option, Some, None, List, [], ◌∷◌, ◌++◌, append_assoc, refl, ap, ◌∙◌, Item, Head, head_items, items_of, mark_items, Visit, code_at}
+use Rattle.image_code.proofs.Common.{◌≡◌, Option, Some, None, List, [], ◌∷◌, ◌++◌, append_assoc, refl, ap, ◌∙◌, Item, Head, head_items, items_of, mark_items, SourceWord, code_at}
 use Rattle.layout.specs.declared.items.Item.TheVariants as it
 use Rattle.image_code.proofs.shape.assemble.Goals as goal
 
-mark_first : (mark : Option (Visit × Head)) (rest : List Item) → mark_items mark [] ++ rest ≡ mark_items mark rest
+mark_first : (mark : Option (SourceWord × Head)) (rest : List Item) → mark_items mark [] ++ rest ≡ mark_items mark rest
 mark_first None rest = refl
 mark_first (Some (visit, head)) rest =
     ap (λ xs. it.Mark visit.address visit.node ∷ xs) (append_assoc (head_items visit.address head) (it.EndMark ∷ []) rest)

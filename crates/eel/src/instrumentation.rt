@@ -23,7 +23,7 @@ use tool_kit::{Chooser, EdgeRef, Tool, ToolKind};
 
 /// What an edit puts on the edges of a program.
 #[derive(Drop)]
-pub enum EdgeWork {
+pub enum Instrumentation {
     /// Nothing.
     Nothing,
     /// What a script names on each edge. Those past the last have nothing on them.
@@ -34,7 +34,7 @@ pub enum EdgeWork {
     Ring(u32),
 }
 
-impl Chooser for EdgeWork {
+impl Chooser for Instrumentation {
     ghost use Rattle.eel.specs.Private.{MayAsk, Says};
 
     ghost may = { λ work edge. MayAsk work edge };
@@ -46,17 +46,17 @@ impl Chooser for EdgeWork {
     }
 }
 
-impl EdgeWork {
+impl Instrumentation {
     /// How many cells there are.
     fn cells(&self) -> u32
         requires { IsFit self.now }
         ensures { result ≡ cells_of self.now }
     {
         match self {
-            EdgeWork::Nothing => 0,
-            EdgeWork::Script(script) => script.cells,
-            EdgeWork::Counters(tree) => 2 * tree.cells(),
-            EdgeWork::Ring(bits) => ring_cells(*bits),
+            Instrumentation::Nothing => 0,
+            Instrumentation::Script(script) => script.cells,
+            Instrumentation::Counters(tree) => 2 * tree.cells(),
+            Instrumentation::Ring(bits) => ring_cells(*bits),
         }
     }
 
@@ -65,10 +65,10 @@ impl EdgeWork {
         ensures { result ≡ kind_of self.now }
     {
         match self {
-            EdgeWork::Nothing => ToolKind::Plain,
-            EdgeWork::Script(_) => ToolKind::Script,
-            EdgeWork::Counters(_) => ToolKind::Profile,
-            EdgeWork::Ring(_) => ToolKind::Trace,
+            Instrumentation::Nothing => ToolKind::Plain,
+            Instrumentation::Script(_) => ToolKind::Script,
+            Instrumentation::Counters(_) => ToolKind::Profile,
+            Instrumentation::Ring(_) => ToolKind::Trace,
         }
     }
 
@@ -80,10 +80,10 @@ impl EdgeWork {
         ensures below { WorksBelow (cells_of self.now) result }
     {
         match self {
-            EdgeWork::Nothing => Snippet::empty(),
-            EdgeWork::Script(script) => named_on(script, edge),
-            EdgeWork::Counters(tree) => counter_on(tree, edge),
-            EdgeWork::Ring(bits) => entry_of(*bits, edge),
+            Instrumentation::Nothing => Snippet::empty(),
+            Instrumentation::Script(script) => named_on(script, edge),
+            Instrumentation::Counters(tree) => counter_on(tree, edge),
+            Instrumentation::Ring(bits) => entry_of(*bits, edge),
         }
     }
 }
@@ -144,7 +144,7 @@ pub fn edit_by(
     bytes: &[u8],
     view: &View,
     marks: Vec<WordNo>,
-    work: EdgeWork,
+    work: Instrumentation,
 ) -> Result<Vec<u8>, EditFault>
     requires limit { length bytes.now ≤ 2 ^ 26 }
     requires sound { IsSound bytes.now }

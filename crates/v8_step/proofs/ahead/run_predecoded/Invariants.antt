@@ -1,6 +1,6 @@
 -- The steps so far were all made, and the run goes on at a place with a record.
 use Rattle.v8_step.proofs.Common.{◌≡◌, ◌+◌, ◌-◌, ◌<◌, ◌≤◌, None, AreKept, code_of, at_places, slot_by, IsQuietRun}
-use Rattle.v8_step.proofs.ahead.go_far.Given as goal
+use Rattle.v8_step.proofs.ahead.run_predecoded.Given as goal
 
 abbrev pub invariant-turns : goal.invariant-turns
 invariant-turns l = record {

@@ -1,6 +1,6 @@
 use Rattle.eel.proofs.Common.{ℕ, sym, subst, ◌∙◌, IsSound, MayAsk, Says}
 use Rattle.eel.proofs.Tools.{counts_edges, edits_made, edits_refused, is_sound}
-use Rattle.eel.proofs.edge_work.edit_by.Goals as goal
+use Rattle.eel.proofs.instrumentation.edit_by.Goals as goal
 
 pub new-tool-requires : goal.new-tool-requires
 new-tool-requires c =

@@ -1,7 +1,7 @@
 -- One turn more.
 use Rattle.v8_step.proofs.Common.{rules, arith, length, ℕ, ◌≡◌, ◌+◌, ◌-◌, ◌<◌, ◌≤◌, ◌∙◌, ap, sym, Cursor, On, Past, To, At, Stop, State, Slot, NoSlot, Untaken, Taken, slot_by}
 use Rattle.v8_step.proofs.InOrder.{at_start, comes_on, in_slot, jump_place, no_slot, not_last}
-use Rattle.v8_step.proofs.ahead.go_far.Goals as goal
+use Rattle.v8_step.proofs.ahead.run_predecoded.Goals as goal
 
 abbrev here : ℕ → ℕ → ℕ → ℕ → ℕ → ℕ → Slot → Cursor
 here first len cur next spare slot_end slot = record {
@@ -110,14 +110,14 @@ turns-preserved-in-On c =
     not_last c.args.ops.now _ _ c.turns.cur _ On c.op_in-op.ensures.item c.op_in-last.ensures.item (search rules) c.in-On.ensures.said on_goes i.cur in
     let n = onward c.args.limit (length c.args.ops.now) c.turns.next c.turns.spare (i.ahead more) i.most in
     let on =
-    comes_on c.args.m.now c.turns.m c.turn.new.self (here c.args.first (length c.args.ops.now) c.turns.cur c.turns.next
+    comes_on c.args.m.now c.turns.m c.execute.new.self (here c.args.first (length c.args.ops.now) c.turns.cur c.turns.next
     c.turns.spare c.turns.slot_end c.turns.slot) On c.turns.next (c.turns.next + 1)
     (c.args.limit + c.turns.next - length c.args.ops.now - 1 - c.turns.spare)
     (c.args.limit + (c.turns.next + 1) - length c.args.ops.now - 1 - c.turns.spare) NoSlot (slot_by (c.turns.next + 1) c.turns.slot_end c.turns.slot) c.op_in-op.result.now c.args.ops.now
     i.live i.run i.kept (c.op_in-op.ensures.kept _ i.kept) c.in-On.ensures.turned.0 c.in-On.ensures.said on_goes
     n.count (sym (no_slot _ _ _ i.slot)) in
     record {
-      live = c.turn.ensures.turned.2 ∙ i.live;
+      live = c.execute.ensures.turned.2 ∙ i.live;
       run = on.0;
       kept = on.1;
       cur = i.ahead more;
@@ -135,14 +135,14 @@ turns-preserved-in-Past c =
     c.op_in-last.ensures.item (search rules) c.in-Past.ensures.said past_goes i.cur in
     let n = onward c.args.limit (length c.args.ops.now) c.turns.next c.turns.spare (i.ahead more) i.most in
     let on =
-    comes_on c.args.m.now c.turns.m c.turn.new.self (here c.args.first (length c.args.ops.now) c.turns.cur c.turns.next
+    comes_on c.args.m.now c.turns.m c.execute.new.self (here c.args.first (length c.args.ops.now) c.turns.cur c.turns.next
     c.turns.spare c.turns.slot_end c.turns.slot) Past c.turns.next (c.turns.next + 1)
     (c.args.limit + c.turns.next - length c.args.ops.now - 1 - c.turns.spare)
     (c.args.limit + (c.turns.next + 1) - length c.args.ops.now - 1 - c.turns.spare) Untaken (slot_by (c.turns.next + 1) (c.turns.next + 2) Untaken) c.op_in-op.result.now c.args.ops.now
     i.live i.run i.kept (c.op_in-op.ensures.kept _ i.kept) c.in-Past.ensures.turned.0 c.in-Past.ensures.said past_goes
     n.count (sym (in_slot _ _ _ (below_two c.turns.next))) in
     record {
-      live = c.turn.ensures.turned.2 ∙ i.live;
+      live = c.execute.ensures.turned.2 ∙ i.live;
       run = on.0;
       kept = on.1;
       cur = i.ahead more;
@@ -161,14 +161,14 @@ turns-preserved-in-To c =
     c.op_in-last.ensures.item (search rules) c.in-To.ensures.said (to_goes _) i.cur in
     let n = transfer c.args.limit (length c.args.ops.now) c.turns.next c.turns.spare c.in-To.place w.0 w.1 i.most in
     let on =
-    comes_on c.args.m.now c.turns.m c.turn.new.self (here c.args.first (length c.args.ops.now) c.turns.cur c.turns.next
+    comes_on c.args.m.now c.turns.m c.execute.new.self (here c.args.first (length c.args.ops.now) c.turns.cur c.turns.next
     c.turns.spare c.turns.slot_end c.turns.slot) (To c.in-To.place) c.turns.next c.in-To.place
     (c.args.limit + c.turns.next - length c.args.ops.now - 1 - c.turns.spare)
     (c.args.limit + c.in-To.place - length c.args.ops.now - 1 - (c.turns.spare - c.turns.next - 1 + c.in-To.place)) Taken (slot_by c.in-To.place (c.in-To.place + 1) Taken) c.op_in-op.result.now c.args.ops.now
     i.live i.run i.kept (c.op_in-op.ensures.kept _ i.kept) c.in-To.ensures.turned.0 c.in-To.ensures.said (to_goes _)
     n.count (sym (in_slot _ _ _ (just_below c.in-To.place))) in
     record {
-      live = c.turn.ensures.turned.2 ∙ i.live;
+      live = c.execute.ensures.turned.2 ∙ i.live;
       run = on.0;
       kept = on.1;
       cur = i.ahead more;
@@ -184,14 +184,14 @@ turns-preserved c =
     let w = c.in-At.ensures.turned.1 in
     let n = jump c.args.limit (length c.args.ops.now) c.turns.next c.turns.spare c.in-At.place w.0 w.1 i.most in
     let on =
-    comes_on c.args.m.now c.turns.m c.turn.new.self (here c.args.first (length c.args.ops.now) c.turns.cur c.turns.next
+    comes_on c.args.m.now c.turns.m c.execute.new.self (here c.args.first (length c.args.ops.now) c.turns.cur c.turns.next
     c.turns.spare c.turns.slot_end c.turns.slot) (At c.in-At.place) c.in-At.place (c.in-At.place + 1)
     (c.args.limit + c.turns.next - length c.args.ops.now - 1 - c.turns.spare)
     (c.args.limit + (c.in-At.place + 1) - length c.args.ops.now - 1 - (c.turns.spare - c.turns.next + c.in-At.place)) NoSlot (slot_by (c.in-At.place + 1) 0 c.turns.slot) c.op_in-op.result.now c.args.ops.now
     i.live i.run i.kept (c.op_in-op.ensures.kept _ i.kept) c.in-At.ensures.turned.0 c.in-At.ensures.said (at_goes _)
     n.count (sym (no_slot _ _ _ (zero_least _))) in
     record {
-      live = c.turn.ensures.turned.2 ∙ i.live;
+      live = c.execute.ensures.turned.2 ∙ i.live;
       run = on.0;
       kept = on.1;
       cur = w.0;

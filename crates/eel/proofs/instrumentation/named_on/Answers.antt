@@ -1,6 +1,6 @@
 use Rattle.eel.proofs.Common.{◌≡◌, [], get_or, rules, sym, subst}
 use Rattle.snippets.specs.Cells.{WorksBelow}
-use Rattle.eel.proofs.edge_work.named_on.Goals as goal
+use Rattle.eel.proofs.instrumentation.named_on.Goals as goal
 
 pub returns-in-Some-clause-below : goal.returns-in-Some-clause-below
 returns-in-Some-clause-below c =

@@ -1,5 +1,5 @@
 use Rattle.jump_code.proofs.Common.{rules}
-use Rattle.jump_code.proofs.switches.choose_code.Goals as goal
+use Rattle.jump_code.proofs.code.jump_translated_code.Goals as goal
 
 pub returns : goal.returns
 returns c = search rules
