@@ -238,7 +238,7 @@ class Kit:
         """How it is to build. One of the known logic that has all of the above does as the known one; any other does by
         `rt lib` and `rt run`, which each kit has."""
         if self.name.rpartition(' logic ')[2] != KIT_KNOWN.rpartition(' logic ')[2]:
-            return self.by_rt('it has another logic')
+            return self.by_rt('it has another logic, under which proofs may fail')
         options = told(f'{self.folder}/bin/rattle', 'build', '--help')
         lacking = [part for part in KIT_PARTS if not os.path.exists(f'{self.folder}/{part}')]
         lacking += [f'{option} of `rattle build`' for option in KIT_OPTIONS if option not in options]
@@ -438,7 +438,9 @@ class Build:
         self.logs = tempfile.mkdtemp(prefix='build.', dir=OUT)
         try:
             repack('.gz', '')
-        except (OSError, EOFError, zlib.error):
+        except (OSError, EOFError, zlib.error) as error:
+            if getattr(error, 'errno', None) == errno.ENOSPC:
+                stop(f'the disk of {OUT} is full: a build takes {room} MB')
             stop(f"the libraries in {CRATES} can't be unpacked: `eel --clean` removes them")
         parts = f'{len(self.wanted)} parts, {self.places} at once, {self.minutes_left()} min'
         say(f'proving and building the program, once for these sources: {parts}')
@@ -453,7 +455,7 @@ class Build:
         if self.failed and is_full():
             stop(f'the disk of {OUT} is full: a build takes {room} MB; what is proved stays, and the next call goes on')
         if self.failed:
-            doubt = f'. {self.kit.doubt}' if self.kit.doubt else ''
+            doubt = f'. That may be since {self.kit.doubt}' if self.kit.doubt else ''
             stop(f'the program could not be built; {self.logs}/{list(self.failed)[0]}.log says why{doubt}')
         shutil.rmtree(self.logs)
         return self.way
@@ -510,18 +512,21 @@ def note(sources, way, kit):
     return True
 
 
-def build(way):
-    kit, started = Kit(), time.time()
-    way = way or kit.way()
+def build(keeps):
+    """Builds the program, if it isn't that of these sources; where it keeps what it proves, in any case."""
+    started, kit = time.time(), None
     os.makedirs(OUT, exist_ok=True)
     hold()
     for old in glob.glob(f'{glob.escape(OUT)}/build.*'):
         shutil.rmtree(old)
     while True:
         sources = sum_of_sources()
-        if is_built(sources) and way != 'kept':
+        if is_built(sources) and not keeps:
             return
-        work = Build(kit, way)
+        if not kit:
+            kit = Kit()
+            way = kit.way()
+        work = Build(kit, 'kept' if keeps else way)
         way = work.all()
         if note(sources, way, kit.name):
             break
@@ -548,11 +553,12 @@ def kilobytes():
 
 
 def main(words):
+    signal.signal(signal.SIGCHLD, signal.SIG_DFL)  # where it is ignored, as some callers leave it, no status is told
     for number in SIGNALS:
         if signal.getsignal(number) != signal.SIG_IGN:
             signal.signal(number, end)
     if words in ([], ['--keep']):
-        build('kept' if words else '')
+        build(keeps=bool(words))
     elif words == ['--sum']:
         os.write(1, f'{sum_of_sources()}\n'.encode())
     elif words[:1] == ['--note'] and len(words) == 2:

@@ -264,7 +264,7 @@ def other_name(place):
 def other_logic(place):
     place.eel(version=OTHER_LOGIC)
     yield 'takes rt', place.ways == {'rt'} and place.status == 0 and 'made by' in place.printed
-    yield 'says why', 'it has another logic' in place.told
+    yield 'says why', 'it has another logic, under which proofs may fail' in place.told
     yield 'notes how', place.built().endswith('by_rt') and place.built('kit') == OTHER_LOGIC
     yield 'has the libraries', os.path.isdir(f'{place.top}/crates/middle/out/rlib/middle.rlib')
     place.write(f'{place.top}/crates/low/out/rlib/old', 'a file of an older library')
@@ -315,7 +315,7 @@ def no_folder_told(place):
 def proof_fails(place):
     place.eel(version=OTHER_LOGIC, BREAKS='middle')
     yield 'ends', place.status == 78 and not place.built() and not place.printed
-    yield 'names the kit as a cause', f'says why. the kit is {OTHER_LOGIC}' in place.told
+    yield 'names the kit as a cause', f'says why. That may be since the kit is {OTHER_LOGIC}' in place.told
     place.eel(version=KNOWN, BREAKS='middle')
     yield 'the known one is no cause', place.status == 78 and 'says why\n' in place.told
     yield 'is tried once more, and nothing above', place.called.count('middle') == 2 and 'eel_main' not in place.called
@@ -352,6 +352,29 @@ def kept(place):
     yield "what can't be built isn't noted as built", place.status == 78 and not place.built()
     yield 'nor said to be', 'is built' not in place.told
     yield 'nor left', not os.path.exists(f'{place.out}/eel_main')
+    place.git('init', '-q')
+    place.commit()
+    place.call('./build.py', '--keep', version=OTHER_LOGIC)
+    yield 'another logic is told of', place.status == 0 and 'proofs may fail' in place.told
+    place.change('low')
+    place.commit()
+    place.eel()
+    yield 'what is kept is run as it is', not place.ways and place.status == 0 and not place.told
+
+
+def changed_and_back(place):
+    """What was built of changes that aren't committed is looked at each time: they may be others, or gone."""
+    place.git('init', '-q')
+    place.commit()
+    place.change('low')
+    place.eel()
+    yield 'is built of changes', place.status == 0 and place.built().endswith('statements changed')
+    place.eel()
+    yield 'is run', not place.ways and place.status == 0 and not place.told
+    place.git('checkout', '-q', '--', 'crates')
+    place.eel()
+    yield 'is built of what is committed', place.ways == {'rattle'} and place.status == 0 and place.built().endswith('statements')
+    yield 'which is said', 'the sources have changed since the program was built\n' in place.told
 
 
 def of_a_gate(place):
@@ -513,6 +536,20 @@ def ended_by(number, of_build, version=KNOWN):
     return case
 
 
+def gate_ended_by(number):
+    def case(place):
+        gate = place.begin('.ci/run', LASTS='ci')
+        provers = place.until_proving()
+        os.kill(gate.pid, number)
+        place.ended(gate)
+        yield 'ends with its status', place.status == 128 + number and not place.built()
+        yield 'ends the provers', len(provers) == 2 and not left_of(provers)
+        place.call('.ci/run')
+        yield 'the next one passes', place.status == 0 and place.built().endswith('gate')
+    case.__name__ = f'{signal.Signals(number).name} to a gate'
+    return case
+
+
 def ended_in_the_midst(place):
     begun = place.begin('./build.py', LASTS='middle')
     provers = place.until_proving()
@@ -637,10 +674,10 @@ def told_on_the_way(place):
 
 
 CASES = [known, other_name, other_logic, no_version, part_gone, option_gone, refuses_words, no_folder_told, proof_fails,
-         no_rt, no_python, kept, of_a_gate, changed_in_a_gate, changed_in_a_build, pulls, packed, words,
+         no_rt, no_python, kept, changed_and_back, of_a_gate, changed_in_a_gate, changed_in_a_build, pulls, packed, words,
          not_to_be_written, on_a_terminal,
          *(ended_by(number, of_build) for number in build.SIGNALS for of_build in ('build', '')),
-         ended_by(signal.SIGINT, 'group'), ended_by(signal.SIGTERM, 'build', OTHER_LOGIC), ended_in_the_midst,
+         *map(gate_ended_by, build.SIGNALS), ended_by(signal.SIGINT, 'group'), ended_by(signal.SIGTERM, 'build', OTHER_LOGIC), ended_in_the_midst,
          hung_up_in_peace, killed, two_builds, cleaned_in_a_build, build_in_a_gate, gate_in_a_build, own_lock_of_a_gate,
          full_disk]
 

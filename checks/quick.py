@@ -8,6 +8,12 @@ said on the error stream, so that the last line of a gate before it stays the la
 A step has no terminal and no input, and a folder of its own for temporary files; it has none of the variables by which a
 caller changes what programs print, or where they write. One that takes too long is ended, with all that it began.
 """
+import sys
+
+if sys.version_info < (3, 10):
+    sys.stderr.write('quick.py: all is left out: it takes Python 3.10 or newer, and python3 is %d.%d\n' % sys.version_info[:2])
+    sys.exit(0)
+
 import contextlib
 import glob
 import os
@@ -15,7 +21,6 @@ import re
 import shutil
 import signal
 import subprocess
-import sys
 import tempfile
 import threading
 import time
@@ -24,7 +29,7 @@ from concurrent.futures import ThreadPoolExecutor, as_completed
 
 from called import BUILT, EEL, TOP, heed_signals, parser_of
 
-LIMIT = 1800  # seconds of a step: a busy machine may take many times as long as an idle one
+LIMIT = 900  # seconds of a step: a busy machine may take many times as long as an idle one
 SHELL = ['eel', 'tools/terminal.sh', 'tools/install.sh', '.ci/run', 'examples/c/build.sh', 'examples/real/build.sh']
 # Words are split on purpose, and variables are set to nothing.
 KNOWN = 'SC1007,SC1091,SC2013,SC2015,SC2016,SC2034,SC2046,SC2086,SC2115,SC2148,SC2154,SC2207,SC2317'
@@ -35,7 +40,7 @@ PYTHON = sys.executable or shutil.which('python3')
 LONG = 'kits', 'wrong calls', 'models', 'traps'  # are begun first
 CROSS = ['sparc64-linux-gnu-gcc', 'clang', 'gcc', 'gcov', 'valgrind']
 FOREIGN = re.compile('GIT_(?!CONFIG_)[A-Z_]*|GIT_CONFIG_PARAMETERS|PYTHON.*|LC_.*|LANG.*|EEL_EXPLAIN|DESTDIR|CDPATH|ENV|BASH_ENV|'
-                     'COLUMNS|POSIXLY_CORRECT|TAR_OPTIONS|GZIP')
+                     'COLUMNS|(FORCE|NO)_COLOR|POSIXLY_CORRECT|TAR_OPTIONS|GZIP')
 RUNNING, RUNNING_HELD = {}, threading.Lock()
 
 
