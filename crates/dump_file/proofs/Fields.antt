@@ -1,5 +1,5 @@
 -- The fields of a dump, and the steps of a reading.
-use Rattle.dump_file.proofs.Common.{◌≡◌, ℕ, ◌+◌, ◌*◌, ◌<◌, ◌≤◌, ◌^◌, Bool, true, false, List, ◌++◌, length, drop, Result, Ok, Err, Some, None, if◌then◌else◌, refl, ap, arith, nat_le, le-leb, leb-true, length-append, length-drop, drop-drop, drop-append_seam, big_number, big_bytes, big_number-reads_back, length-bytes_high_first, big_from-lt, Dump, kind_of, number_of, mark, ◌>>=◌, count_place, found, field_at, kept, length_at}
+use Rattle.dump_file.proofs.Common.{◌≡◌, ℕ, ◌+◌, ◌*◌, ◌<◌, ◌≤◌, ◌^◌, Bool, true, false, List, ◌++◌, length, drop, Ok, Some, None, if◌then◌else◌, refl, ap, arith, nat_le, le-leb, leb-true, length-append, length-drop, drop-drop, drop-append_seam, big_number, big_bytes, big_number-reads_back, length-bytes_high_first, big_from-lt, Dump, kind_of, number_of, mark, count_place, found, field_at, length_at}
 use Rattle.dump_file.proofs.Words.{AreBytes, bytes_dropped}
 
 -- The fields that a dump has before its cells.
@@ -55,21 +55,3 @@ after {size} written at next n bytes are h place =
     let there = is.there in
     let long = length-drop at bytes in
     rw (is.is, ← place, ← drop-drop size at bytes) (written (drop at bytes) (omega arith) (bytes_dropped at bytes are))
-
--- a reading that succeeds is a step that succeeds, and then the rest
-pub record Then {A B : Type 0} (m : Result A ℕ) (f : A → Result B ℕ) (y : B) : Type 0 where
-  pub got : A
-  pub is : m ≡ Ok got
-  pub rest : f got ≡ Ok y
-
-pub parted : {A B : Type 0} (m : Result A ℕ) (f : A → Result B ℕ) (y : B) → (m >>= f) ≡ Ok y → Then m f y
-parted (Ok x) f y h = record { got = x; is = refl; rest = h }
-parted (Err e) f y h = absurd (cc h)
-
-pub record Met {A : Type 0} (rule : Bool) (value x : A) : Type 0 where
-  pub met : rule ≡ true
-  pub same : value ≡ x
-
-pub met : {A : Type 0} (rule : Bool) (at : ℕ) (value x : A) → kept rule at value ≡ Ok x → Met rule value x
-met true at value x h = record { met = refl; same = cc h }
-met false at value x h = absurd (cc h)

@@ -1,7 +1,8 @@
 -- What reads is what is written of the dump that was read.
 use Rattle.dump_file.proofs.Common.{◌≡◌, ℕ, zero, suc, ◌+◌, ◌*◌, ◌<◌, ◌≤◌, ◌^◌, ◌==◌, Bool, true, false, List, [], ◌∷◌, ◌++◌, length, drop, Option, Result, Ok, if◌then◌else◌, refl, ap, sym, subst, ◌∙◌, arith, nat_le, All, leb-true, eq-eqb, eqb-true, false≢true, length-drop, big_bytes, is_version, Ending, Dump, kind_of, number_of, IsDump, mark, words_bytes, dump_bytes, count_at, count_place, field_at, version_at, kept, length_at, number_limit, ending_of, ending_at, fits, words_of, read_dump}
 use Rattle.dump_file.proofs.Words.{AreBytes, are_bytes, bytes_dropped, words_again, length-words, words_fit, written_4, written_8}
-use Rattle.dump_file.proofs.Fields.{Found, after, field_fits, parted, met}
+use Rattle.notes.proofs.Kept.{met, parted}
+use Rattle.dump_file.proofs.Fields.{Found, after, field_fits}
 use Rattle.dump_file.proofs.ReadsBack.{parts as fields_stand}
 pub use Rattle.dump_file.proofs.Examples.{exits_bytes}
 

@@ -3,16 +3,11 @@
 use Rattle.std.specs.Prelude.{ℕ, zero, suc, ◌+◌, ◌*◌, Bool, ◌||◌, ◌==◌, nat_le, if◌then◌else◌, List, [], ◌∷◌, length, drop, Option, Some, None, Result, Ok, Err}
 use Rattle.byteorder.specs.Endian.{big_number}
 use Rattle.eel_base.specs.Fields.{be_field}
-use Rattle.notes.specs.Format.{is_version}
+use Rattle.notes.specs.Format.{is_version, ◌>>=◌}
 use Rattle.v8_step.specs.declared.Ending.{Ending}
 use Rattle.v8_step.specs.declared.Ending.TheVariants.{Exit, Trap, Window, Couple}
 use Rattle.dump_file.specs.Dump.{Dump}
 use Rattle.dump_file.specs.Written.{mark}
-
-infixl 10 ◌>>=◌
-abbrev pub ◌>>=◌ : {A B : Type 0} → Result A ℕ → (A → Result B ℕ) → Result B ℕ
-(Ok x) >>= f = f x
-(Err at) >>= f = Err at
 
 -- a number that is whole
 abbrev pub found : Option ℕ → ℕ → Result ℕ ℕ

@@ -1,16 +1,16 @@
 -- What was read meets its rules.
-use Rattle.notes.proofs.Common.{◌≡◌, ℕ, zero, suc, ◌+◌, ◌*◌, ◌%◌, ◌<◌, ◌≤◌, ◌^◌, Bool, true, false, not, ◌&&◌, ◌||◌, ◌==◌, List, [], ◌∷◌, Option, Some, None, Result, Ok, Err, refl, ap, sym, subst, ◌∙◌, length, arith, nat_le, nat_lt, list_any, and_parts, and_from, leb-true, ltb-true, eqb-true, cond_both, ne_eqb, NoteSegment, NoteEdge, NoteRange, Notes, NoNotes, ◌>>=◌, note_at, note_that, kept, follows, is_cell, is_counter, is_version, no_cell, cell_of, counter_width, last_tool, most_cells, segments_at, blocks_at, edges_at, ranges_at, read_notes, Head, block_count_at, head_of, tables_of, is_segment, are_segments, are_blocks, is_free, is_edge, with_cell, are_edges, is_range, are_ranges, AreNotes, segment_at, block_at, edge_at, range_at, cell_word}
+use Rattle.notes.proofs.Common.{◌≡◌, ℕ, zero, suc, ◌+◌, ◌*◌, ◌%◌, ◌<◌, ◌≤◌, ◌^◌, Bool, true, false, not, ◌&&◌, ◌||◌, ◌==◌, List, [], ◌∷◌, Option, Some, None, Result, Ok, Err, refl, ap, sym, subst, ◌∙◌, length, arith, nat_le, nat_lt, list_any, and_parts, and_from, leb-true, ltb-true, eqb-true, cond_both, ne_eqb, NoteSegment, NoteEdge, NoteRange, Notes, NoNotes, ◌>>=◌, note_at, note_that, kept, follows, is_cell, is_counter, is_version, no_cell, cell_of, counter_width, last_tool, most_cells, segments_at, blocks_at, edges_at, ranges_at, read_notes, Head, block_count_at, head_of, tables_of, is_segment, are_segments, are_blocks, is_free, is_edge, with_cell, are_edges, is_range, are_ranges, AreNotes, segment_at, block_at, edge_at, range_at, cell_word, if◌then◌else◌}
 use Rattle.notes.proofs.TableRows.{segments-next, blocks-next, edges-next, ranges-next}
 use Rattle.notes.proofs.CellMarks.{counter_below, few_cells, has_width}
 use Rattle.notes.proofs.Whole.{in_parts}
 
 -- a reading that succeeds is a step that succeeds, and then the rest
-pub record Then {A B : Type 0} (m : Result A NoNotes) (f : A → Result B NoNotes) (y : B) : Type 0 where
+pub record Then {A B E : Type 0} (m : Result A E) (f : A → Result B E) (y : B) : Type 0 where
   pub got : A
   pub is : m ≡ Ok got
   pub rest : f got ≡ Ok y
 
-pub parted : {A B : Type 0} (m : Result A NoNotes) (f : A → Result B NoNotes) (y : B) → (m >>= f) ≡ Ok y → Then m f y
+pub parted : {A B E : Type 0} (m : Result A E) (f : A → Result B E) (y : B) → (m >>= f) ≡ Ok y → Then m f y
 parted (Ok x) f y h = record { got = x; is = refl; rest = h }
 parted (Err e) f y h = absurd (cc h)
 
@@ -18,15 +18,16 @@ pub record Met {A : Type 0} (rule : Bool) (value x : A) : Type 0 where
   pub met : rule ≡ true
   pub same : value ≡ x
 
-pub met : {A : Type 0} (rule : Bool) (at : ℕ) (value x : A) → kept rule at value ≡ Ok x → Met rule value x
-met true at value x h = record { met = refl; same = cc h }
-met false at value x h = absurd (cc h)
+pub met : {A E : Type 0} (rule : Bool) (fault : E) (value x : A) → (if rule then Ok value else Err fault) ≡ Ok x
+    → Met rule value x
+met true fault value x h = record { met = refl; same = cc h }
+met false fault value x h = absurd (cc h)
 
 -- a word with a rule
 pub that : (rule : ℕ → Bool) (notes : List ℕ) (at x : ℕ) → note_that rule notes at ≡ Ok x → rule x ≡ true
 that rule notes at x h =
     let read = parted (note_at notes at) (λ word. kept (rule word) at word) x h in
-    let found = met (rule read.got) at read.got x read.rest in
+    let found = met (rule read.got) _ read.got x read.rest in
     subst (λ (w : ℕ). rule w ≡ true) found.same found.met
 
 abbrev ok : {A : Type 0} → A → Result A NoNotes
@@ -40,7 +41,7 @@ unfolding segment_at
 segment_rule end notes at segment h =
     let start = parted (note_at notes at) _ segment h in
     let length = parted (note_at notes (at + 4)) _ segment start.rest in
-    let found = met _ at _ segment length.rest in
+    let found = met _ _ _ segment length.rest in
     subst (λ (s : NoteSegment). is_segment end s ≡ true) found.same found.met
 
 pub record Rows {A : Type 0} (rule : Bool) (count : ℕ) (rows : List A) : Type 0 where
@@ -81,7 +82,7 @@ range_rule blocks segments end notes at range h =
     let hi = parted (note_at notes (at + 4)) _ range lo.rest in
     let address = parted (note_at notes (at + 8)) _ range hi.rest in
     let node = parted (note_at notes (at + 12)) _ range address.rest in
-    let found = met _ at _ range node.rest in
+    let found = met _ _ _ range node.rest in
     subst (λ (r : NoteRange). is_range blocks segments end r ≡ true) found.same found.met
 
 pub ranges_kept : (blocks : ℕ) (segments : List NoteSegment) (notes : List ℕ) (at end count : ℕ) (rows : List NoteRange) → ranges_at blocks segments notes at end count ≡ Ok rows → Rows (are_ranges blocks segments end rows) count rows
@@ -126,7 +127,7 @@ edge_rule width blocks cells wide words taken notes at edge alike h =
     let from = parted (note_at notes (at + 4)) _ edge kind.rest in
     let to = parted (note_at notes (at + 8)) _ edge from.rest in
     let cell = parted (note_at notes (at + 12)) _ edge to.rest in
-    let found = met _ at _ edge cell.rest in
+    let found = met _ _ _ edge cell.rest in
     let between = nat_le kind.got 6 && nat_le from.got (2 * blocks) && nat_le to.got (2 * blocks) in
     let parts = and_parts between (is_cell width cells words cell.got) found.met in
     subst (λ (e : NoteEdge). is_edge width blocks cells taken e ≡ true) found.same
@@ -217,8 +218,8 @@ head_kept version size notes =
     (that (λ delta. nat_le 4096 delta) notes 0 delta is_delta) (that (λ tool. nat_le tool (last_tool version)) notes 8 tool is_tool)
     (that (λ start. (start % 4 == 0) && nat_le 0x1000 start) notes 12 start is_start)
     (that (λ words. nat_le 1 words && nat_le words (2 ^ 20) && nat_le (start + 4 * words) 0x80000000) notes 16 words is_words)
-    (met ((base_read % 4 == 0) && nat_le (base_read + 4 * cells_read) (2 ^ 32)) 24 base_read base is_base)
-    (met (nat_le cells_read (most_cells version)) 28 cells_read cells is_cells)
+    (met ((base_read % 4 == 0) && nat_le (base_read + 4 * cells_read) (2 ^ 32)) _ base_read base is_base)
+    (met (nat_le cells_read (most_cells version)) _ cells_read cells is_cells)
     (that (λ count. nat_le count 8) notes 32 segments is_segments) (ok_same _ head h))))))))))))
 
 count_kept : (entry words : ℕ) (notes : List ℕ) (at count : ℕ) → block_count_at entry words notes at ≡ Ok count → (entry < count) × (count ≤ words)
@@ -226,8 +227,8 @@ unfolding block_count_at
 count_kept entry words notes at count h =
     let read = parted (note_at notes at) _ count h in
     let below = parted (kept (nat_lt entry read.got) 20 entry) _ count read.rest in
-    let below_met = met _ 20 entry below.got below.is in
-    let found = met _ at read.got count below.rest in
+    let below_met = met _ _ entry below.got below.is in
+    let found = met _ _ read.got count below.rest in
     let parts = and_parts (nat_le 1 read.got) (nat_le read.got words) found.met in
     subst (λ (n : ℕ). (entry < n) × (n ≤ words)) found.same (ltb-true entry read.got below_met.met, leb-true read.got words parts.1)
 

@@ -70,7 +70,7 @@ abbrev pub byte_count : List ℕ → ℕ
 byte_count bytes = length bytes
 
 infixl 10 ◌>>=◌
-abbrev pub ◌>>=◌ : {A B : Type 0} → Result A NoNotes → (A → Result B NoNotes) → Result B NoNotes
+abbrev pub ◌>>=◌ : {A B E : Type 0} → Result A E → (A → Result B E) → Result B E
 (Ok x) >>= f = f x
 (Err e) >>= f = Err e
 
