@@ -9,8 +9,8 @@ number_one : (count : ℕ) (m n : Node) → IsNumbered count m → IsNumbered co
     → number_in count m ≡ number_in count n → m ≡ n
 number_one count m n h k e = grind arith
 
-same_self : (m : Node) → same_node m m ≡ true
-same_self m = grind arith
+pub same_itself : (m : Node) → same_node m m ≡ true
+same_itself m = grind arith
 
 not_same : (count : ℕ) (m n : Node) → (number_in count m ≡ number_in count n → ⊥) → same_node m n ≡ false
 not_same count m n h = grind arith
@@ -48,7 +48,7 @@ module _ (count mark : ℕ) where
     unfolding with_node
     has_itself = elim (cases_Bool (list_any (same_node node) nodes)) [
       | inl t ↦ rw t t
-      | inr f ↦ rw f (any_push (same_node node) nodes node ∙ or_right _ _ (same_self node))
+      | inr f ↦ rw f (any_push (same_node node) nodes node ∙ or_right _ _ (same_itself node))
     ]
 
     has_other : (other : Node) → same_node other node ≡ false

@@ -34,7 +34,7 @@ started program word is (x ∷ words) among =
         absurd (false≢true (sym e ∙ ap (is_start program) (eqb-true x word f) ∙ is))
     by false e false f h rest = rest h
 
-numbered : (word count : ℕ) → word < count → is_among (range_with_len 0 count) word ≡ true
+pub numbered : (word count : ℕ) → word < count → is_among (range_with_len 0 count) word ≡ true
 numbered word count l =
     let size = length-range_with_len 0 count in
     list_any_at (λ x. x == word) (range_with_len 0 count) word 0 (omega (arith, size, l))

@@ -11,6 +11,7 @@ pub use Rattle.cfg_blocks.specs.Entries.{ways_from}
 pub use Rattle.cfg_blocks.specs.Switches.{is_jump}
 pub use Rattle.cfg_blocks.specs.declared.BlockEnd.{BlockEnd}
 pub use Rattle.cfg_blocks.specs.declared.EdgeKind.{EdgeKind}
+pub use Rattle.cfg_normal.proofs.Cases.{same_itself}
 pub use Rattle.cfg_normal.specs.Code.{home_of, IsEdgeIn, IsNodeIn, IsSlotIn}
 pub use Rattle.cfg_normal.specs.Graph.{case_nodes, case_of, copied_edges, directed, edge_of, edges_of, Graph, graph_of, has_cases, is_compared, landing_at, landing_at as landing, landings_of, lands, lands_of, node_of, once_onto, runs_slot, slot_behind, slot_on, ways_out}
 unfoldable pub use Rattle.cfg_normal.specs.Graph.{edges_in}

@@ -1,5 +1,5 @@
 -- The edges of a graph, found by the node that they leave, or to which they lead, and by their kind.
-use Rattle.cfg_walk.proofs.Common.{◌≡◌, ℕ, ◌<◌, Bool, true, false, ◌&&◌, ◌||◌, List, [], ◌∷◌, ◌++◌, length, map, Option, Some, refl, ap, sym, ◌∙◌, subst, inl, inr, arith, if◌then◌else◌, ◌⊎◌, ◌==◌, filter, list_any, flat_map, slice_get, position, option_to_list, list_any-append, and_parts, cases_Bool, cond_both, eq-eqb, false≢true, EdgeKind, Way, Blocks, below, end_of, last_word, ways_from, Edge, Node, Block, Landed, X, home_of, IsNodeIn, Open, is_copied, jumps_in, Graph, case_nodes, case_of, copied_edges, directed, graph_of, has_cases, landings_of, node_of, edge_of, edges_of, edges_in, landing_at, once_onto, ways_out, edge_along, edge_from, landing_number, is_to, node_after, led_to, same_kind, same_node}
+use Rattle.cfg_walk.proofs.Common.{◌≡◌, ℕ, ◌<◌, Bool, true, false, ◌&&◌, ◌||◌, List, [], ◌∷◌, ◌++◌, length, map, Option, Some, refl, ap, sym, ◌∙◌, subst, inl, inr, arith, if◌then◌else◌, ◌⊎◌, ◌==◌, filter, list_any, flat_map, slice_get, position, option_to_list, list_any-append, and_parts, cases_Bool, cond_both, eq-eqb, false≢true, EdgeKind, Way, Blocks, below, end_of, last_word, ways_from, Edge, Node, Block, Landed, X, home_of, IsNodeIn, Open, is_copied, jumps_in, Graph, case_nodes, case_of, copied_edges, directed, graph_of, has_cases, landings_of, node_of, edge_of, edges_of, edges_in, landing_at, once_onto, ways_out, edge_along, edge_from, landing_number, is_to, node_after, led_to, same_kind, same_node, same_itself}
 use Rattle.std.proofs.lemmas.List.Quantifiers.{position-Some}
 use Rattle.std.proofs.lemmas.Option.{get_or_from_slice_get}
 use Rattle.std.proofs.Math.Bool.{or-true}
@@ -32,9 +32,6 @@ edge_is graph p edge h = record { number = h.number; only = ap option_to_list h.
 
 pub same_nodes : (one other : Node) → same_node one other ≡ true → one ≡ other
 same_nodes one other e = grind arith
-
-pub same_itself : (node : Node) → same_node node node ≡ true
-same_itself node = grind arith
 
 same_swap : (one other : Node) → same_node one other ≡ same_node other one
 same_swap one other = grind arith

@@ -1,8 +1,8 @@
 -- The nodes about open switches.
-use Rattle.cfg_walk.proofs.Common.{◌≡◌, ℕ, ◌<◌, ◌≤◌, nat_le, Bool, true, false, not, ◌&&◌, ◌||◌, nat_lt, List, [], ◌∷◌, ◌++◌, length, map, Option, Some, None, refl, sym, subst, arith, if◌then◌else◌, ◌==◌, filter, flat_map, list_any, slice_get, and_parts, cond_both, false≢true, lt-ltb, or_left, nat_tests, EdgeKind, Blocks, holding_of, Node, Block, Landed, X, home_of, IsNodeIn, same_node, Open, compares_in, is_behind, is_copied, jumps_in, targets_in, graph_of, edges_in, edges_of, copied_edges, case_nodes, case_of, edge_of, ways_out, landing_at, directed, is_compared, landings_of, lands_of, node_of, once_onto, below, ways_from, Edge, led_to, node_after}
+use Rattle.cfg_walk.proofs.Common.{◌≡◌, ℕ, ◌<◌, ◌≤◌, nat_le, Bool, true, false, not, ◌&&◌, ◌||◌, nat_lt, List, [], ◌∷◌, ◌++◌, length, map, Option, Some, None, refl, sym, subst, arith, if◌then◌else◌, ◌==◌, filter, flat_map, list_any, slice_get, and_parts, cond_both, false≢true, lt-ltb, or_left, nat_tests, EdgeKind, Blocks, holding_of, Node, Block, Landed, X, home_of, IsNodeIn, same_node, Open, compares_in, is_behind, is_copied, jumps_in, targets_in, graph_of, edges_in, edges_of, copied_edges, case_nodes, case_of, edge_of, ways_out, landing_at, directed, is_compared, landings_of, lands_of, node_of, once_onto, below, ways_from, Edge, led_to, node_after, same_itself}
 use Rattle.std.proofs.lemmas.List.Sums.{count_by-le-length}
 use Rattle.cfg_normal.proofs.GraphFacts.{copied_where}
-use Rattle.cfg_walk.proofs.Edges.{any_once, block, each_edge, leave_node, leave_own, copy, is_it, same_itself}
+use Rattle.cfg_walk.proofs.Edges.{any_once, block, each_edge, leave_node, leave_own, copy, is_it}
 use Rattle.cfg_walk.proofs.Lists.{Each, each, each-append, each-below, each-flat_map, each-map, each-then, each_at}
 
 pub home_of_node : (b : Blocks) (to : Option ℕ) → home_of (node_of b to) ≡ node_of b to

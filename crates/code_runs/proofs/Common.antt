@@ -1,5 +1,5 @@
 -- The names that more than one proof cites, of this crate and of crates below, passed on from one place. Declares nothing.
-pub use Rattle.std.proofs.Common.{[], All, ap, append_assoc, arith, Bool, drop, drop-drop, eqb-true, Err, false, get_or, get_or-set_other, IfSome, inl, inr, length, length-append, length-drop, List, map, None, not, Ok, Option, refl, Result, Some, subst, suc, sym, take, true, zero, ℕ, ◌%◌, ◌&&◌, ◌*◌, ◌++◌, ◌+◌, ◌-◌, ◌/◌, ◌<◌, ◌^◌, ◌||◌, ◌∙◌, ◌∷◌, ◌≡◌, ◌≢◌, ◌≤◌, ◌⊎◌}
+pub use Rattle.std.proofs.Common.{[], ap, append_assoc, arith, Bool, drop, drop-drop, eqb-true, Err, false, get_or, get_or-set_other, IfSome, inl, inr, length, length-append, length-drop, List, map, None, not, Ok, Option, refl, Result, Some, subst, suc, sym, take, true, zero, ℕ, ◌%◌, ◌&&◌, ◌*◌, ◌++◌, ◌+◌, ◌-◌, ◌/◌, ◌<◌, ◌^◌, ◌||◌, ◌∙◌, ◌∷◌, ◌≡◌, ◌≢◌, ◌≤◌, ◌⊎◌}
 pub use Rattle.std.specs.Prelude.{if◌then◌else◌, pos, slice_index, ℤ, ◌==◌}
 pub use Rattle.code_runs.specs.Code.{AllAt, any_of_word, CanLoad, CanStore, of_page, store_all, Stores, word_span}
 unfoldable pub use Rattle.code_runs.specs.Code.{store_word}

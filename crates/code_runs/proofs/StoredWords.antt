@@ -1,9 +1,10 @@
 -- What loads and stores of words do.
-use Rattle.code_runs.proofs.Common.{◌≡◌, ℕ, ◌+◌, ◌-◌, ◌^◌, ◌<◌, ◌≤◌, ◌⊎◌, inl, inr, Bool, true, ◌&&◌, Option, Some, None, List, [], ◌∷◌, ◌++◌, length, take, drop, refl, ap, sym, ◌∙◌, subst, arith, length-append, length-drop, append_assoc, drop-drop, All, IfSome, cond_both, if◌then◌else◌, w32, to_be_bytes, from_be_bytes, find, option_map, take-append_seam, drop-append_seam, drop-append-add, nat_tests, Memory, Region, covers, region_at, part_of, changed, written, with_bytes, bytes_at, read_region, if_allowed, code_of, find-written, AreBytes, IsValidMemory, IsValidRegion, word_in, memory_word, store_word, CanLoad, CanStore}
+use Rattle.code_runs.proofs.Common.{◌≡◌, ℕ, ◌+◌, ◌-◌, ◌^◌, ◌<◌, ◌≤◌, ◌⊎◌, inl, inr, Bool, true, ◌&&◌, Option, Some, None, List, [], ◌∷◌, ◌++◌, length, take, drop, refl, ap, sym, ◌∙◌, subst, arith, length-append, length-drop, append_assoc, drop-drop, IfSome, cond_both, if◌then◌else◌, w32, to_be_bytes, from_be_bytes, find, option_map, take-append_seam, drop-append_seam, drop-append-add, nat_tests, Memory, Region, covers, region_at, part_of, changed, written, with_bytes, bytes_at, read_region, if_allowed, code_of, find-written, AreBytes, IsValidMemory, IsValidRegion, word_in, memory_word, store_word, CanLoad, CanStore}
 use Rattle.std.proofs.lemmas.Nat.{from_be_bytes-to_be_bytes_4}
 use Rattle.std.proofs.lemmas.List.{take-append-le, drop-append-le, take-append-drop, length-take}
-use Rattle.std.proofs.lemmas.List.Elements.{All-cons, All-head, All-tail, All-weaker, All-take, All-drop}
+use Rattle.std.proofs.lemmas.List.Elements.{All-cons, All-weaker, All-take, All-drop}
 use Rattle.v8_memory.proofs.Executable.{filter-written}
+use Rattle.v8_step.proofs.ValidMemory.{find-holds}
 use Rattle.v8_step.proofs.ValidNumbers.{word_of-range}
 
 pub covers_first : (p : Region → Bool) (rs : List Region) (r : Region) → find p rs ≡ Some r → p r ≡ true
@@ -149,11 +150,6 @@ unfolding with_bytes store_word
 word_written m a v h = rw (h.at, h.writable)
 
 -- ---- all that is known of a word of valid memory
-found : (P : Region → Type 0) (p : Region → Bool) (rs : List Region) → All P rs → IfSome (find p rs) P
-found P p [] h = tt
-found P p (r ∷ rs) h = cond_both (p r) (Some r) (find p rs) (λ x. IfSome x P) (λ _. All-head P r rs h)
-    (λ _. found P p rs (All-tail P r rs h))
-
 -- a store changes nothing that can be executed, and no word that can't be
 pub code-store_word : (m : Memory) (a v : ℕ) → code_of (store_word m a v) ≡ code_of m
 unfolding store_word
@@ -170,7 +166,7 @@ loads_stored m a b v h = record {
 pub whole_of : (m : Memory) (a : ℕ) (r : Region) → IsValidMemory m → region_at m a 4 ≡ Some r → r.size ≤ length r.bytes
 whole_of m a r h e =
     subst (λ (z : Option Region). IfSome z (λ q. q.size ≤ length q.bytes)) e
-    (found (λ q. q.size ≤ length q.bytes) (covers a 4) (m.heap ∷ m.regions)
+    (find-holds (λ q. q.size ≤ length q.bytes) (covers a 4) (m.heap ∷ m.regions)
     (All-cons (λ q. q.size ≤ length q.bytes) m.heap m.regions
     (let b = h.heap.size in let c = h.heap.count in omega arith)
     (All-weaker IsValidRegion (λ q. q.size ≤ length q.bytes)
@@ -195,7 +191,7 @@ other_word_stored m a b v h apart =
 pub memory_word-range : (m : Memory) (a : ℕ) → IsValidMemory m → memory_word m a < 2 ^ 32
 unfolding memory_word
 memory_word-range m a h =
-    go (region_at m a 4) (found (λ r. AreBytes r.bytes) (covers a 4) (m.heap ∷ m.regions)
+    go (region_at m a 4) (find-holds (λ r. AreBytes r.bytes) (covers a 4) (m.heap ∷ m.regions)
     (All-cons (λ r. AreBytes r.bytes) m.heap m.regions h.heap.bytes
     (All-weaker IsValidRegion (λ r. AreBytes r.bytes) (λ r k. k.bytes) m.regions h.regions)))
   where

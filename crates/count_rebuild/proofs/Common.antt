@@ -24,7 +24,7 @@ pub use Rattle.std.proofs.Math.ListN.{get_or-map}
 pub use Rattle.std.proofs.lemmas.Bool.{and_parts, cond_both, eq-eqb, false≢true, le-leb, leb-false, leb-true, or_left, or_right}
 pub use Rattle.std.proofs.lemmas.Grind.{common_steps}
 pub use Rattle.std.proofs.lemmas.List.{append-nil, drop_all, length-map, take_all, take_more}
-pub use Rattle.std.proofs.lemmas.List.Elements.{All-cons, All-head, All-map, All-nil, All-tail}
+pub use Rattle.std.proofs.lemmas.List.Elements.{All-cons, All-map, All-nil}
 pub use Rattle.std.proofs.lemmas.List.Folds.{list_any-append, list_any_at}
 pub use Rattle.std.proofs.lemmas.Result.{err_from_is_err_and, IfErr-weaker, IfOk-weaker}
 pub use Rattle.std.specs.List.{All, find, list_any, range_with_len}

@@ -1,9 +1,10 @@
 -- What the notes' rules and lists say of their graph.
-use Rattle.count_rebuild.proofs.Common.{◌≡◌, ℕ, ◌+◌, ◌*◌, ◌<◌, ◌≤◌, Bool, true, false, ◌&&◌, List, [], ◌∷◌, get_or, length, map, nat_le, nat_lt, Option, Some, None, refl, ap, sym, ◌∙◌, arith, IfSome, ℤ, if◌then◌else◌, All, find, list_any, option_map, option_or, get_or-map, and_parts, cond_both, eq-eqb, le-leb, leb-true, or_left, or_right, length-map, All-cons, All-head, All-nil, All-tail, list_any_at, NoteEdge, NoteRange, NoteSegment, Notes, holds, node_at, range_at, EdgeSet, Graph, NodeSet, graph_of, marked, IsSpanningTree, Link, int_at, are_edges, are_ranges, is_edge, is_range, with_cell, edge_seen, notes_seen, range_seen, segment_seen, any_map, cell_value, edge_at, ends_at, has_cell, is_node, lies_at, no_edge, noted_graph, is_counted, link_of}
+use Rattle.count_rebuild.proofs.Common.{◌≡◌, ℕ, ◌+◌, ◌*◌, ◌<◌, ◌≤◌, Bool, true, false, ◌&&◌, List, [], ◌∷◌, get_or, length, map, nat_le, nat_lt, Option, Some, None, refl, ap, sym, ◌∙◌, arith, IfSome, ℤ, if◌then◌else◌, All, find, list_any, option_map, option_or, get_or-map, and_parts, cond_both, eq-eqb, le-leb, leb-true, or_left, or_right, length-map, All-cons, All-nil, list_any_at, NoteEdge, NoteRange, NoteSegment, Notes, holds, node_at, range_at, EdgeSet, Graph, NodeSet, graph_of, marked, IsSpanningTree, Link, int_at, are_edges, are_ranges, is_edge, is_range, with_cell, edge_seen, notes_seen, range_seen, segment_seen, any_map, cell_value, edge_at, ends_at, has_cell, is_node, lies_at, no_edge, noted_graph, is_counted, link_of}
 use Rattle.flows.proofs.Weights.{weight_same}
 use Rattle.eel_base.specs.declared.range.Range as declared_range
 use Rattle.notes.specs.declared.note.NoteEdge as declared_edge
 use Rattle.notes.specs.declared.note.Notes as declared_notes
+use Rattle.v8_step.proofs.ValidMemory.{find-holds}
 
 -- ---- lists that are made of the edges
 
@@ -90,12 +91,6 @@ block_is_node notes node l = or_left _ _ (or_left _ _ (le-leb node (length notes
 
 -- ---- where an address stands
 
-IfSome-find : {A : Type 0} (P : A → Type 0) (p : A → Bool) (xs : List A) → All P xs → IfSome (find p xs) P
-IfSome-find P p [] h = tt
-IfSome-find P p (x ∷ xs) h =
-    cond_both (p x) (Some x) (find p xs) (λ o. IfSome o P) (λ e. All-head P x xs h)
-    (λ e. IfSome-find P p xs (All-tail P x xs h))
-
 abbrev IsInside : Notes → ℕ → Type 0
 IsInside notes node = (node ≤ 2 * length notes.blocks) × (is_node notes node ≡ true)
 
@@ -103,7 +98,7 @@ pub node_inside : (notes : Notes) (address : ℕ)
     → are_ranges (length notes.blocks) notes.segments 0 notes.ranges ≡ true
     → IfSome (node_at notes address) (IsInside notes)
 node_inside notes address h =
-    by (range_at notes address) (IfSome-find (λ (range : NoteRange). IsInside notes range.node)
+    by (range_at notes address) (find-holds (λ (range : NoteRange). IsInside notes range.node)
     (λ range. nat_le range.lo address && nat_lt address range.hi) notes.ranges
     (λ k d l. (
       ranges_inside (length notes.blocks) notes.segments 0 notes.ranges h k d l,

@@ -72,7 +72,7 @@ pub use Rattle.image_code.proofs.Fit.{pieces_fit, piece_shaped, places_say}
 pub use Rattle.image_code.proofs.Listed.{count_is, foreign_stands, shape_at}
 pub use Rattle.image_code.proofs.Made.{pieces_make_images}
 pub use Rattle.image_code.proofs.OpenBlocks.{text_graph, are_open, is_list}
-pub use Rattle.image_code.proofs.OpenNumbers.{each_index, each_of_all, enter_below}
+pub use Rattle.image_code.proofs.OpenNumbers.{each_index, enter_below}
 pub use Rattle.image_code.proofs.Opened.{cased, load_is, load_passes}
 pub use Rattle.image_code.proofs.Positions.{any_at, contains, found_in_range}
 pub use Rattle.image_code.specs.Copies.{is_at, copies_of, targets_from}
@@ -87,6 +87,7 @@ unfoldable pub use Rattle.image_code.specs.SnippetWords.{codes_of}
 pub use Rattle.image_code.specs.Store.{cells_in, snippet_on, store_of, updates}
 pub use Rattle.indexmap.specs.IndexMap.{get}
 pub use Rattle.layout.proofs.Needed.{long_is_enough, short_is_enough}
+pub use Rattle.layout.proofs.Ranging.{ends_by}
 pub use Rattle.layout.specs.Laid.{Ascend, HasShortForms, IsLaid, IsRangeOf, Placement, item_at, long_bytes, range_in, IsWordAt, ArePieces, item_in, items_in, range_of, open_in, end_from}
 pub use Rattle.layout.specs.declared.items.Item.{Item}
 pub use Rattle.liveness.specs.Live.{IsLiveOn, edge_at, is_call_or_jump, is_outside, is_unknown, named_on}
@@ -123,7 +124,7 @@ pub use Rattle.tool_kit.specs.declared.edge_ref.ToolKind.{ToolKind}
 pub use Rattle.two_runs.proofs.Stays.{step_stays, ended_stays}
 pub use Rattle.two_runs.specs.Follows.{IsWay}
 pub use Rattle.two_runs.specs.Needed.{IsUntouched, WritesIn}
-pub use Rattle.two_runs.specs.TwoRuns.{Answers, Ends, GoesOn, IsLeast, HasSameOutside, Matches, MatchesBy}
+pub use Rattle.two_runs.specs.TwoRuns.{Answers, Ends, IsLeast, HasSameOutside, Matches}
 pub use Rattle.two_runs.specs.Visits.{own_trail, pages_of, trail_of, visit_of, page_of}
 pub use Rattle.v8_decode.proofs.Marks.{has-members_at, same_sets, set_of-members}
 pub use Rattle.v8_decode.proofs.Members.{has-every_part, has-members, is_same-self}

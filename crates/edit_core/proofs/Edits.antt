@@ -1,5 +1,5 @@
 -- What is written is an edit: its notes meet their rules, and the laws of written files give the rest. It is faithful.
-use Rattle.edit_core.proofs.Common.{sym, false≢true, ◌≡◌, ℕ, suc, ◌+◌, ◌*◌, ◌%◌, ◌^◌, ◌<◌, ◌≤◌, List, [], ◌∷◌, ◌++◌, length, length-append, nat_le, None, inl, inr, refl, ap, ◌∙◌, arith, All, sum_by, length-replicate, count_by-le-length, big_bytes, IsText, Words, image_of, highest_end, Notes, accepted-program, AreNotes, notes_bytes, notes_words, words_bytes, AddedSegment, length-words_bytes, Graph, TableAt, Each, Placement, AreFit, Plan, ToolKind, tool_number, true, slice_index, Some, slice_get, le-leb, lt-ltb, append_assoc, slice_get_within, get_or_from_slice_get, address_of, word_at, NoteRange, Part, State, run, start_of, mapping_added, Edge, IsEdgeIn, is_node, each-append, each-then, IsNoLoad, are_tables, cased, each_index, note_bytes, IsWordAt, PlacesSay, CanEdit, bound_in, page_size, HasGraph, HasPages, IsInRoom, IsPlace, note_edges, note_of, word_mapped, IsEdited, IsWithinBound, LoadsNoEntry, is_before_jump, nat_lt, ◌&&◌, subst, table_of, load_is, blocks_of, CaseTable, Open, any_at, replicate, view_of, entered_of, are_ranges, flat_map, eq-eqb, and_from, holds, node_number, each_of_all, get_or_default_zero}
+use Rattle.edit_core.proofs.Common.{sym, false≢true, ◌≡◌, ℕ, suc, ◌+◌, ◌*◌, ◌%◌, ◌^◌, ◌<◌, ◌≤◌, List, [], ◌∷◌, ◌++◌, length, length-append, nat_le, None, inl, inr, refl, ap, ◌∙◌, arith, All, sum_by, length-replicate, count_by-le-length, big_bytes, IsText, Words, image_of, highest_end, Notes, accepted-program, AreNotes, notes_bytes, notes_words, words_bytes, AddedSegment, length-words_bytes, Graph, TableAt, Each, Placement, AreFit, Plan, ToolKind, tool_number, true, slice_index, Some, slice_get, le-leb, lt-ltb, append_assoc, slice_get_within, get_or_from_slice_get, address_of, word_at, NoteRange, Part, State, run, start_of, mapping_added, Edge, IsEdgeIn, is_node, each-append, each-then, IsNoLoad, are_tables, cased, each_index, note_bytes, IsWordAt, PlacesSay, CanEdit, bound_in, page_size, HasGraph, HasPages, IsInRoom, IsPlace, note_edges, note_of, word_mapped, IsEdited, IsWithinBound, LoadsNoEntry, is_before_jump, nat_lt, ◌&&◌, subst, table_of, load_is, blocks_of, CaseTable, Open, any_at, replicate, view_of, entered_of, are_ranges, flat_map, eq-eqb, and_from, holds, node_number, get_or_default_zero, each-flat_map}
 use Rattle.std.proofs.lemmas.List.Elements.{All-replicate}
 use Rattle.notes.specs.Laws.{AreWords}
 use Rattle.notes.specs.Written.{segment_words, edge_words, range_words}
@@ -7,7 +7,7 @@ use Rattle.notes.proofs.ReadsBack.{written_back}
 use Rattle.elf32_write.specs.Conditions.{CanWrite, AreNumbers, Ascend, CanLoad, HasWords, IsInReach}
 use Rattle.elf32_write.specs.Laws.{AreBytes, HoldsOriginal}
 use Rattle.elf32_write.proofs.Carried.{segments_are_mapped}
-use Rattle.elf32_write.proofs.FileBytes.{file_is_bytes}
+use Rattle.elf32_write.proofs.FileBytes.{file_is_bytes, words-bytes}
 use Rattle.elf32_write.proofs.Laws.{original_is_held, notes_are_read, entry_is_given, size_is_bounded}
 use Rattle.elf32_write.proofs.Loads.{file_loads}
 use Rattle.elf32_write.proofs.Segments.{delta-from, delta-to}
@@ -33,10 +33,6 @@ use Rattle.edit_core.proofs.Mapped.{code_mapped}
 all_any : {A : Type 0} (P : A → Type 0) (count : ℕ) (z : A) (xs : List A) → (0 < count → P z) → Each P xs
     → All P (if_any count z ++ xs)
 all_any P count z xs here each = all_each P (if_any count z ++ xs) (each_any P count z xs here each)
-
-pub words_are_bytes : (words : List ℕ) → AreBytes (words_bytes words)
-unfolding words_bytes
-words_are_bytes words = flat_map-bytes (big_bytes 4) (high_first-bytes 4) words
 
 pub word_here : (original : List ℕ) (plan : Plan) (word : ℕ) → word < length (text_of original plan).words
     → word_at (text_of original plan) (address_of (text_of original plan) word) ≡ Some word
@@ -233,7 +229,7 @@ module _ (original : List ℕ) (plan : Plan) (limit : length original ≤ 2 ^ 26
       (each-append Fits (numbers ++ areas ++ blocks) links (each-append Fits (numbers ++ areas) blocks
       (each-append Fits numbers areas small (
         omega arith,
-        each_of_all Fits segment_words notes.segments (each_any (λ segment. Each Fits (segment_words segment))
+        each-flat_map Fits segment_words notes.segments (each_any (λ segment. Each Fits (segment_words segment))
             plan.cells _ (behind original plan p) (λ some. omega arith) (omega arith)),
       )) (
         omega arith,
@@ -241,11 +237,11 @@ module _ (original : List ℕ) (plan : Plan) (limit : length original ≤ 2 ^ 26
             omega (arith, firsts.within k l, get_or_default_zero graph.blocks.firsts k d l)),
       )) (
         omega arith,
-        each_of_all Fits edge_words (note_edges graph plan.kind graph.edges plan.snips)
+        each-flat_map Fits edge_words (note_edges graph plan.kind graph.edges plan.snips)
             (edges_fit graph plan.kind plan.cells _ _ (omega arith) work.few edges_in (each_all _ _ work.good)),
       )) (
         omega arith,
-        each_of_all Fits range_words notes.ranges (ranges_all (λ range. Each Fits (range_words range)) (λ edge inside.
+        each-flat_map Fits range_words notes.ranges (ranges_all (λ range. Each Fits (range_words range)) (λ edge inside.
             let node = node_few graph edge.from inside.from in omega arith) (ranges_fit graph (tables_from + size) _
             p.ranges (omega arith) (omega arith) code.laid.ascend whole)),
       ))
@@ -270,7 +266,7 @@ module _ (original : List ℕ) (plan : Plan) (limit : length original ≤ 2 ^ 26
           code = code;
           bytes = file_is_bytes original segments _ ns bytes
               (all_any (λ s. AreBytes s.bytes) plan.cells cells appended (λ _ k d l. absurd (omega (arith, l)))
-              (code.bytes, (words_are_bytes p.code, (All-replicate (λ b. b < 256) page_size 0 (omega arith), tt))))
+              (code.bytes, (words-bytes p.code, (All-replicate (λ b. b < 256) page_size 0 (omega arith), tt))))
               (notes_are_bytes notes);
           loads = file_loads original segments _ ns can_be_written numbers can_load;
           reads = notes_are_read original segments _ ns can_be_written

@@ -14,8 +14,8 @@ use Rattle.code_runs.proofs.Leads.{run_add, puts_add}
 use Rattle.code_runs.specs.PointsAlike.{AreAlikeOn, AreAtOnePoint, instr_of}
 use Rattle.code_runs.proofs.Ours.{outside_trans}
 use Rattle.code_runs.proofs.PointsAlike.{points_act_alike}
-use Rattle.two_runs.proofs.Follows.{runs_follow}
-use Rattle.edit_core.proofs.Trails.{ending, going, long_lives, longer, node_of_place, over_or_not, own_live, placed_between, quiet_trail, stays, trail_stays, visit_lives, visit_more, visited_address}
+use Rattle.two_runs.proofs.Follows.{ending, going, runs_follow}
+use Rattle.edit_core.proofs.Trails.{long_lives, longer, node_of_place, over_or_not, own_live, placed_between, quiet_trail, stays, trail_stays, visit_lives, visit_more, visited_address}
 use Rattle.two_runs.specs.TwoRuns.{IsBounded}
 use Rattle.image_code.proofs.Dead.{same_then}
 

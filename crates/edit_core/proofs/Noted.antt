@@ -1,5 +1,5 @@
 -- The notes on an edit meet their rules.
-use Rattle.edit_core.proofs.Common.{◌≡◌, ℕ, zero, suc, nat_tests, ◌+◌, ◌*◌, ◌%◌, ◌^◌, ◌<◌, ◌≤◌, true, Option, Some, List, [], ◌∷◌, ◌++◌, length, length-append, drop, get_or, append_assoc, append-nil, sym, ◌∙◌, map, refl, arith, slice_index, list_any, and_from, eq-eqb, le-leb, lt-ltb, or_left, or_right, big_bytes, Notes, NoteEdge, NoteRange, NoteSegment, holds, AddedSegment, notes_bytes, notes_words, EdgeKind, Edge, Node, Block, Landed, X, Graph, IsEdgeIn, IsNodeIn, node_number, Each, each-then, Ascend, Placement, Op, Count, WorksBelow, WorksIn, ToolKind, AreCounters, Plan, ne_eqb, length-bytes_high_first, length-flat_map, follows, are_segments, are_blocks, are_edges, is_edge, is_free, IsAscending, kind_number, cell_noted, editor_page, note_edge, note_edges, page_size, IsGood}
+use Rattle.edit_core.proofs.Common.{◌≡◌, ℕ, zero, suc, nat_tests, ◌+◌, ◌*◌, ◌%◌, ◌^◌, ◌<◌, ◌≤◌, true, Option, Some, List, [], ◌∷◌, ◌++◌, length, length-append, drop, get_or, append_assoc, append-nil, sym, ◌∙◌, map, refl, arith, slice_index, list_any, and_from, eq-eqb, le-leb, lt-ltb, or_left, or_right, big_bytes, Notes, NoteEdge, NoteRange, NoteSegment, holds, AddedSegment, notes_bytes, notes_words, EdgeKind, Edge, Node, Block, Landed, X, Graph, IsEdgeIn, IsNodeIn, node_number, Each, each-then, Ascend, Placement, Op, Count, WorksBelow, WorksIn, ToolKind, AreCounters, Plan, ne_eqb, length-bytes_high_first, length-flat_map, follows, are_segments, are_blocks, are_edges, is_edge, is_free, IsAscending, kind_number, cell_noted, editor_page, note_edge, note_edges, page_size, IsGood, ends_by}
 use Rattle.std.proofs.lemmas.List.Folds.{list_any_none}
 use Rattle.std.proofs.Common.{add-one, drop-cons, lit<}
 use Rattle.std.proofs.Math.ListN.{drop_of_length-le}
@@ -8,7 +8,7 @@ use Rattle.tool_kit.specs.declared.edge_ref.ToolKind.TheVariants as tools
 use Rattle.edit_core.specs.Written.{cells_at, code_at, code_base, if_any, page_segment, segment_noted, segments_noted, table_after, table_at, text_of, graph_in, notes_on, segment_size, table_base}
 use Rattle.edit_core.proofs.Fronts.{any-map, any_past}
 use Rattle.edit_core.proofs.Eaches.{all_each}
-use Rattle.edit_core.proofs.Ranges.{IsWhole, ends_by}
+use Rattle.edit_core.proofs.Ranges.{IsWhole}
 use Rattle.edit_core.proofs.Snippets.{begins_within}
 
 -- ---- segments
@@ -123,7 +123,7 @@ pub ranges_fit : (graph : Graph) (from to : ℕ) (rs : List NoteRange) → lengt
     → Ascend from to rs → Each (IsWhole graph) rs → Each (λ range. Each Fits (range_words range)) rs
 ranges_fit graph from to [] few low a each = tt
 ranges_fit graph from to (r ∷ rs) few low a each =
-    let past = ends_by r.hi to rs a.2 in
+    let past = ends_by rs r.hi to a.2 in
     (omega (arith, a.1, each.0.low, each.0.node.few), ranges_fit graph r.hi to rs few low a.2 each.1)
 
 -- how many bytes notes take

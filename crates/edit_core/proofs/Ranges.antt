@@ -1,5 +1,5 @@
 -- What laid code has: words, and ranges that notes may have.
-use Rattle.edit_core.proofs.Common.{◌≡◌, ℕ, zero, suc, ◌+◌, ◌*◌, ◌%◌, ◌^◌, ◌<◌, ◌≤◌, true, nat_lt, nat_le, Option, Some, None, List, [], ◌∷◌, ◌++◌, length, map, refl, ap, sym, ◌∙◌, arith, cond, slice_get, flat_map, list_any, le-leb, le-ltb, lt-ltb, nat_tests, slice_get_within, Words, address_of, IsText, NoteSegment, NoteRange, holds, are_ranges, Graph, Each, Item, Ascend, IsLaid, IsRangeOf, Placement, item_at, range_in, piece_list, IsGraphOf, each_index, option_map, slice_get-map, item_in, items_in, range_of, open_in, end_from, Foreign, piece_number, shape_list, foreign_stands, shape_at, text_graph, piece_shaped}
+use Rattle.edit_core.proofs.Common.{◌≡◌, ℕ, zero, suc, ◌+◌, ◌*◌, ◌%◌, ◌^◌, ◌<◌, ◌≤◌, true, nat_lt, nat_le, Option, Some, None, List, [], ◌∷◌, ◌++◌, length, map, refl, ap, sym, ◌∙◌, arith, cond, slice_get, flat_map, list_any, le-leb, le-ltb, lt-ltb, nat_tests, slice_get_within, Words, address_of, IsText, NoteSegment, NoteRange, holds, are_ranges, Graph, Each, Item, Ascend, IsLaid, IsRangeOf, Placement, item_at, range_in, piece_list, IsGraphOf, each_index, option_map, slice_get-map, item_in, items_in, range_of, open_in, end_from, Foreign, piece_number, shape_list, foreign_stands, shape_at, text_graph, piece_shaped, ends_by}
 use Rattle.layout.specs.declared.items.Item.TheVariants as it
 use Rattle.image_code.specs.declared.shape.SourceWord.{SourceWord}
 use Rattle.image_code.specs.Shapes.{exit_items, items_of, mark_items}
@@ -9,10 +9,6 @@ use Rattle.edit_core.proofs.Fronts.{passed}
 use Rattle.std.proofs.lemmas.Option.{same_Some}
 
 -- ---- ranges one after the other
-
-pub ends_by : (from to : ℕ) (rs : List NoteRange) → Ascend from to rs → from ≤ to
-ends_by from to [] a = a
-ends_by from to (r ∷ rs) a = let e = ends_by r.hi to rs a.2 in let f = a.0 in let l = a.1 in omega arith
 
 -- a range is found by its first address
 found : (from to : ℕ) (rs : List NoteRange) → Ascend from to rs → (n : ℕ) (r : NoteRange) → slice_get rs n ≡ Some r
@@ -45,7 +41,7 @@ ranges_rule graph segments end from to (r ∷ rs) a w e held =
     let (from_lo, some, rest) = a in
     let (whole, others) = w in
     let few = whole.node.few in
-    let here = held r.lo r.hi from_lo (ends_by r.hi to rs rest) in
+    let here = held r.lo r.hi from_lo (ends_by rs r.hi to rest) in
     let later = ranges_rule graph segments r.hi r.hi to rs rest others (omega arith)
     (λ lo hi from_hi to_end. held lo hi (omega arith) to_end) in
     grind (arith, nat_tests, whole.lo, whole.hi, whole.address)

@@ -1,5 +1,5 @@
 -- What was written of an original has runs like the original's.
-use Rattle.edit_core.proofs.Common.{◌≡◌, ℕ, suc, ◌+◌, ◌-◌, ◌*◌, ◌%◌, ◌^◌, ◌<◌, ◌≤◌, ◌⊎◌, inl, inr, true, false, nat_le, nat_lt, List, [], ◌∷◌, length, replicate, slice_index, Option, Some, None, refl, ap, sym, ◌∙◌, subst, arith, slice_get, get_or_from_slice_get, slice_get_within, cases_lt, false_from_ne_true, le-ltb, lt-leb, or_left, or_parts, nat_tests, length-replicate, map-map, NoteRange, Notes, holds, image_of, IsText, Words, word_at, Addr, Part, has, State, AreBytes, NoSlot, IsSameAt, StateItem, Register, IsUntouched, pages_of, AreArguments, program_name, start_of, below, is_among, word_at-some, Edge, Node, Block, Graph, node_of, BeginsAt, FetchesOnly, Point, end_of_walk, point_of, edge_at, is_call_or_jump, is_outside, is_unknown, named_on, entered_of, view_of, TableAt, Ascend, HasShortForms, IsLaid, Placement, range_in, memory_word, cell_at, Plan, PiecesFit, CaseTable, EditSetup, EditorData, AtVisit, codes_of, lands_at, piece_list, IsOffPages, are_tables, table_of, cased, accepted-program, ext_get_or, get_or-replicate, get_or-map-range_with_len, length-map-range_with_len, every_part, members, same_sets, found_in, target_of, words_at, IsPlaced, Pieces, IsOffNoted, IsTableFor, PiecesMakeImages, pieces_in, Linked, RunFacts, short_bound, visits_by, bound_in, Answered, KeptIn}
+use Rattle.edit_core.proofs.Common.{◌≡◌, ℕ, suc, ◌+◌, ◌-◌, ◌*◌, ◌%◌, ◌^◌, ◌<◌, ◌≤◌, ◌⊎◌, inl, inr, true, false, nat_le, nat_lt, List, [], ◌∷◌, length, replicate, slice_index, Option, Some, None, refl, ap, sym, ◌∙◌, subst, arith, slice_get, get_or_from_slice_get, slice_get_within, cases_lt, false_from_ne_true, le-ltb, lt-leb, or_left, or_parts, nat_tests, length-replicate, map-map, NoteRange, Notes, holds, image_of, IsText, Words, word_at, Addr, Part, has, State, AreBytes, NoSlot, IsSameAt, StateItem, Register, IsUntouched, pages_of, AreArguments, program_name, start_of, below, is_among, word_at-some, Edge, Node, Block, Graph, node_of, BeginsAt, FetchesOnly, Point, end_of_walk, point_of, edge_at, is_call_or_jump, is_outside, is_unknown, named_on, entered_of, view_of, TableAt, Ascend, HasShortForms, IsLaid, Placement, range_in, memory_word, cell_at, Plan, PiecesFit, CaseTable, EditSetup, EditorData, AtVisit, codes_of, lands_at, piece_list, IsOffPages, are_tables, table_of, cased, accepted-program, ext_get_or, get_or-replicate, get_or-map-range_with_len, length-map-range_with_len, every_part, members, same_sets, found_in, target_of, words_at, IsPlaced, Pieces, IsOffNoted, IsTableFor, PiecesMakeImages, pieces_in, Linked, RunFacts, short_bound, visits_by, bound_in, Answered, KeptIn, ends_by}
 use Rattle.cfg_view.proofs.Given.{entry_leads}
 use Rattle.walk_counts.proofs.Fetching.{only_text_is_fetched}
 use Rattle.walk_counts.proofs.Files.{begins, by_case, entry_is, opened}
@@ -19,7 +19,6 @@ use Rattle.edit_core.proofs.Off.{off_here, off_is, ranges_beside}
 use Rattle.edit_core.proofs.Fronts.{passed, past_fails}
 use Rattle.edit_core.proofs.Originals.{image_text}
 use Rattle.edit_core.proofs.Snippets.{cells_in_range, code_short, good_on, snippet_does}
-use Rattle.edit_core.proofs.Ranges.{ends_by}
 use Rattle.edit_core.proofs.Tables.{cases_for}
 use Rattle.edit_core.proofs.Starts.{cell_is_own, cell_zero, file_valid, frame, has_cases, has_code, has_table, is_framed, memory_alike, only_code, original_valid, owned}
 use Rattle.edit_core.proofs.Steps.{original_fit}
@@ -33,7 +32,7 @@ none_beside from to a (r ∷ rs) ascend (inl below) =
     let (low, some, later) = ascend in
     cc (lt-leb r.lo a (omega arith), none_beside r.hi to a rs later (inl (omega arith)))
 none_beside from to a (r ∷ rs) ascend (inr past) =
-    let later = ends_by r.hi to rs ascend.2 in
+    let later = ends_by rs r.hi to ascend.2 in
     passed (nat_le r.lo a) (nat_lt a r.hi) r _ (le-ltb a r.hi (omega arith)) ∙ none_beside r.hi to a rs ascend.2 (inr past)
 
 -- an address that a page doesn't hold

@@ -2,6 +2,7 @@
 -- otherwise with the memory of its original.
 use Rattle.edit_core.proofs.Common.{◌≡◌, ℕ, zero, suc, ◌+◌, ◌-◌, ◌*◌, ◌^◌, ◌<◌, ◌≤◌, ◌⊎◌, inl, inr, Bool, true, false, cond, List, [], ◌∷◌, ◌++◌, length, length-append, map, replicate, drop, Some, None, refl, ap, ◌∙◌, arith, find, range_with_len, cases_Bool, cases_lt, cond_both, nat_tests, append_assoc, length-replicate, Words, Mapping, mappings, accepted-program, kept, mapping_added, Region, region_of, IsApart, IsApartFromAll, Span, start_memory, stack_region, memory_word, TableAt, Placement, EditSetup, EditorData, pages_of, cell_at, Plan, append-nil, drop-replicate, length-drop, take-replicate, Memory, covers, region_at, empty_heap, heap_room, heap_start, HasTable, table_word, IsEditorData, IsTableIn, editor_page, page_size, nat_eq, sym, and_assoc, has_flag, accepted, not_executable, is_code, AreBytes, IsValid, AreArguments, start_of, bit_and, loads_inside, IsSameOutside, slice_index, list_any, slice_get_within, get_or_from_slice_get, big_number, words_bytes, length-words_bytes, fetch_of, list_any-append, code_of, fetch_from, IsBeside, IsEdit, cells_at, cells_base, code_base, code_segment, if_any, page_segment, table_at}
 use Rattle.std.specs.Int.Bits.{and_zero_r}
+use Rattle.elf32_write.proofs.FileBytes.{words-bytes}
 use Rattle.v8_memory.specs.Regions as regions
 use Rattle.v8_process.specs.Fetched.{IsFirstCode}
 use Rattle.v8_process.specs.Alike.{AreSameMappings, span_of}
@@ -14,7 +15,6 @@ use Rattle.code_runs.specs.Page.{page_word}
 use Rattle.addr_translate.proofs.Regions.{regions_stand}
 use Rattle.layout.specs.Running.{HasCode}
 use Rattle.edit_core.specs.Written.{TablesMatch, added, cases_table, first_table, graph_in, notes_on, second_table, segment_size, table_base, tables_size, text_of}
-use Rattle.edit_core.proofs.Edits.{words_are_bytes}
 use Rattle.edit_core.proofs.Fronts.{any-map, any_fails, by_any, past_any}
 use Rattle.edit_core.proofs.Mapped.{original_covers, word_among}
 use Rattle.edit_core.proofs.Steps.{segment_is}
@@ -344,7 +344,7 @@ module _ (original : List ℕ) (plan : Plan) (p : Placement) (place : ℕ → �
       let none : 4 * length p.code - length (words_bytes p.code) ≡ 0 = omega (arith, length-words_bytes p.code) in
       let first : IsFirstCode file its_code =
       record { before = before; after = _; mapped = mapped; none_before = none_before; executable = refl } in
-      code_is_fetched file texts its_code first (omega (arith, base)) (words_are_bytes p.code) n (omega (arith, inside))
+      code_is_fetched file texts its_code first (omega (arith, base)) (words-bytes p.code) n (omega (arith, inside))
       ∙ ap (λ bytes. Some (big_number 4 (drop (4 * n) bytes)))
       (ap (λ (n : ℕ). words_bytes p.code ++ replicate n 0) none ∙ append-nil (words_bytes p.code))
       ∙ ap (λ w. Some w) (word_among p.code n inside is.code.words)

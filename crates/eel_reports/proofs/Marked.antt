@@ -1,15 +1,15 @@
 -- Where every word is marked, each leads.
-use Rattle.std.proofs.Common.{◌≡◌, ℕ, ◌<◌, Bool, true, false, ◌||◌, cond, List, [], ◌∷◌, length, map, refl, ap, sym, ◌∙◌, subst, arith}
+use Rattle.std.proofs.Common.{◌≡◌, ℕ, Bool, true, false, ◌||◌, cond, List, [], ◌∷◌, length, map, refl, ap, sym, ◌∙◌, subst}
 use Rattle.std.specs.Prelude.{◌==◌, nat_lt}
-use Rattle.std.specs.List.{filter, range_with_len}
-use Rattle.std.proofs.lemmas.Bool.{eq-eqb, eqb-true, lt-ltb, or_left, or_right, true≢false}
-use Rattle.std.proofs.lemmas.List.Folds.{list_any-append, list_any_at}
-use Rattle.std.proofs.lemmas.List.FromFn.{get_or-range_with_len, length-range_with_len}
+use Rattle.std.specs.List.{filter}
+use Rattle.std.proofs.lemmas.Bool.{eqb-true, lt-ltb, or_left, or_right, true≢false}
+use Rattle.std.proofs.lemmas.List.Folds.{list_any-append}
 use Rattle.elf32_sparc.specs.Image.{image_of}
 use Rattle.routines.specs.Routines.{routines_of}
 use Rattle.cfg_blocks.specs.Blocks.{is_among}
 use Rattle.cfg_blocks.specs.Marks.{numbers}
 use Rattle.cfg_view.specs.View.{given_in, marks_in, starts_of}
+use Rattle.cfg_view.proofs.Given.{numbered}
 use Rattle.instr_counts.specs.Laws.{HasEach}
 use Rattle.eel_reports.specs.Answers.Every.{every_word}
 use Rattle.eel_reports.specs.Private.{word_numbered}
@@ -32,12 +32,6 @@ filter_keeps p word passes (x ∷ words) among = by (x == word) refl (p x) refl 
     by false is true keeps here rest = or_right (x == word) (is_among (filter p words) word) (rest here)
     by false is false keeps here rest = rest here
 
-all_among : (word count : ℕ) → word < count → is_among (range_with_len 0 count) word ≡ true
-all_among word count l =
-    let size = length-range_with_len 0 count in
-    list_any_at (λ x. x == word) (range_with_len 0 count) word 0 (omega (arith, size, l))
-    (eq-eqb _ word (get_or-range_with_len 0 count word 0 l ∙ omega arith))
-
 each_leads : (original : List ℕ)
     → HasEach (image_of original).text (given_in (image_of original) (every_word original))
 each_leads original word l =
@@ -46,7 +40,7 @@ each_leads original word l =
     (marks_in text (every_word original))
     ∙ or_right (is_among (starts_of (routines_of (image_of original))) word) (is_among (marks_in text (every_word original)) word)
     (filter_keeps (λ mark. nat_lt mark (length text.words)) word (lt-ltb word (length text.words) l) (every_word original)
-    (all_among word (length text.words) l))
+    (numbered word (length text.words) l))
 
 pub leads_marked : (original marks : List ℕ) → marks ≡ every_word original
     → HasEach (image_of original).text (given_in (image_of original) marks)

@@ -11,11 +11,8 @@ use Rattle.snippets.specs.Cells.{WorksBelow}
 use Rattle.snippets.specs.Grammar.{AllSay}
 use Rattle.snippets.specs.Code.{IsScript}
 use Rattle.snippets.specs.Scripts.{cell_end, edge_end, end_of, ops_on as script_ops}
-use Rattle.snippets.proofs.Within.{good_within}
+use Rattle.snippets.proofs.Within.{good_within, none_below}
 use Rattle.eel_reports.specs.Code.{HasCells}
-
-none_below : (cells : ℕ) → WorksBelow cells []
-none_below cells = λ k d within. absurd (omega arith)
 
 -- a list that is made for each number up to some has only what each of them has, or nothing
 made_below : (cells : ℕ) (ops : ℕ → List Op) (count : ℕ) → ((edge : ℕ) → WorksBelow cells (ops edge)) → (edge : ℕ)

@@ -72,7 +72,7 @@ text_passes p [] h found none = cc
 text_passes p (x ∷ hs) h found none =
     at_header p x h (loadable hs) (text_header hs) (is_text x) (is_loadable x) (λ is. (and_parts _ _ (and_parts _ _ is).0).0) (text_passes p hs h) found none
 
-length-words_of : (count : ℕ) (bytes : List ℕ) → length (words_of count bytes) ≡ count
+pub length-words_of : (count : ℕ) (bytes : List ℕ) → length (words_of count bytes) ≡ count
 length-words_of zero bytes = refl
 length-words_of (suc count) bytes = ap suc (length-words_of count (drop 4 bytes))
 

@@ -6,7 +6,7 @@ zeros zero i z = refl
 zeros (suc count) zero z = refl
 zeros (suc count) (suc i) z = zeros count i z
 
-padded : (xs : List ℕ) (count i : ℕ) → get_or (xs ++ replicate count 0) i 0 ≡ get_or xs i 0
+pub padded : (xs : List ℕ) (count i : ℕ) → get_or (xs ++ replicate count 0) i 0 ≡ get_or xs i 0
 padded [] count i = zeros count i 0
 padded (x ∷ xs) count zero = refl
 padded (x ∷ xs) count (suc i) = padded xs count i

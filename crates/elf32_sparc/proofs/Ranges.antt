@@ -2,16 +2,16 @@
 use Rattle.elf32_sparc.proofs.Common.{◌≡◌, ℕ, zero, suc, ◌+◌, ◌^◌, ◌<◌, ◌≤◌, true, false, nat_lt, nat_le, unwrap_or, List, [], ◌∷◌, length, map, drop, slice_index, All, arith, list_any, and_parts, cond_both, or_parts, ltb-false, length-take, All-nil, All-cons, All-head, All-tail, All-drop, ProgramHeader, word_at, program_headers, is_load, is_loadable, loadable, leaves_file, has_bytes_outside, file_bytes, mapping_of, mappings}
 use Rattle.byteorder.specs.Numbers.{big_from-lt}
 
-byte_below : (file : List ℕ) (k : ℕ) → All (λ b. b < 256) file → slice_index file k < 256
-byte_below [] k h = omega arith
-byte_below (b ∷ file) zero h = All-head (λ n. n < 256) b file h
-byte_below (b ∷ file) (suc k) h = byte_below file k (All-tail (λ n. n < 256) b file h)
+pub byte_below : (file : List ℕ) → All (λ b. b < 256) file → (k : ℕ) → slice_index file k < 256
+byte_below [] h k = omega arith
+byte_below (b ∷ file) h zero = All-head (λ n. n < 256) b file h
+byte_below (b ∷ file) h (suc k) = byte_below file (All-tail (λ n. n < 256) b file h) k
 
 pub word_at-range : (file : List ℕ) (at : ℕ) → All (λ b. b < 256) file → word_at file at < 2 ^ 32
 unfolding word_at
 word_at-range file at h =
     cond_both (nat_le (at + 4) (length file)) _ _ (λ o. unwrap_or o 0 < 2 ^ 32)
-    (λ _. big_from-lt 0 4 (drop at file) (λ k. byte_below (drop at file) k (All-drop (λ b. b < 256) at file h)))
+    (λ _. big_from-lt 0 4 (drop at file) (byte_below (drop at file) (All-drop (λ b. b < 256) at file h)))
     (λ _. omega arith)
 
 -- ---- mappings have room for their bytes

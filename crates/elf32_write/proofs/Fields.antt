@@ -1,7 +1,8 @@
 -- The fields of program headers are words.
-use Rattle.elf32_write.proofs.Common.{get_or, ℕ, zero, suc, ◌+◌, ◌^◌, ◌<◌, Bool, true, false, cond, nat_le, List, [], ◌∷◌, length, map, drop, slice_index, Some, None, arith, lit<, All, cond_both, filter, All-append, All-drop, All-cons, All-nil, big_number, ProgramHeader, word_at, half_at, headers_from, program_headers, e_phoff, e_phnum, is_text, section_count, next_page, AddedSegment, segments_end, added_header, added_headers, is_carried, carried_on, delta_in, original_end, segment_headers, CanWrite, be_field, unwrap_or, All-map, All-filter, big_from-lt, e_shnum, has_sections, not_executable, AreNumbers, HasWords}
+use Rattle.elf32_write.proofs.Common.{get_or, ℕ, zero, suc, ◌+◌, ◌^◌, ◌<◌, Bool, true, false, cond, nat_le, List, [], ◌∷◌, length, map, drop, Some, None, arith, lit<, All, cond_both, filter, All-append, All-drop, All-cons, All-nil, big_number, ProgramHeader, word_at, half_at, headers_from, program_headers, e_phoff, e_phnum, is_text, section_count, next_page, AddedSegment, segments_end, added_header, added_headers, is_carried, carried_on, delta_in, original_end, segment_headers, CanWrite, be_field, unwrap_or, All-map, All-filter, big_from-lt, e_shnum, has_sections, not_executable, AreNumbers, HasWords}
 use Rattle.std.specs.Int.Bits.{and_lt}
 use Rattle.elf32_sparc.specs.Header.{program_header}
+use Rattle.elf32_sparc.proofs.Ranges.{byte_below}
 use Rattle.elf32_write.proofs.Segments.{segments_end-from, offsets_fit}
 
 -- each field of a header fits its word
@@ -14,11 +15,6 @@ HasFields h =
 there_below : (there : Bool) (n most : ℕ) → n < most → unwrap_or (cond there (Some n) None) 0 < most
 there_below true n most below = below
 there_below false n most below = omega arith
-
-byte_below : (file : List ℕ) → All (λ byte. byte < 256) file → (k : ℕ) → slice_index file k < 256
-byte_below [] bytes k = omega arith
-byte_below (b ∷ file) bytes zero = bytes zero b (omega arith)
-byte_below (b ∷ file) bytes (suc k) = byte_below file (λ n d below. bytes (suc n) d (omega arith)) k
 
 module _ (file : List ℕ) (bytes : All (λ byte. byte < 256) file) where
   field_below : (n at : ℕ) → unwrap_or (be_field n file at) 0 < 256 ^ n

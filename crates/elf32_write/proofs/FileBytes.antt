@@ -15,7 +15,7 @@ flat_map-bytes : {X : Type 0} (f : X → List ℕ) → ((x : X) → AreBytes (f 
 flat_map-bytes f each [] = All-nil (λ b. b < 256)
 flat_map-bytes f each (x ∷ xs) = All-append (λ b. b < 256) (f x) (flat_map f xs) (each x) (flat_map-bytes f each xs)
 
-words-bytes : (words : List ℕ) → AreBytes (words_bytes words)
+pub words-bytes : (words : List ℕ) → AreBytes (words_bytes words)
 unfolding words_bytes
 words-bytes words = flat_map-bytes (big_bytes 4) (high_first-bytes 4) words
 

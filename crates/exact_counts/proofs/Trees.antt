@@ -1,6 +1,7 @@
 -- The cells of a spanning tree make a profile.
-use Rattle.exact_counts.proofs.Common.{◌≡◌, ℕ, zero, suc, ◌+◌, ◌*◌, ◌<◌, inl, inr, true, not, List, [], ◌∷◌, length, Option, Some, None, refl, ap, ◌∙◌, arith, is_some, counter_width, EdgeSet, count_below, rest, Op, WorksBelow, AreCounters, is_node, links_of, snippet_on, WorksIn, counter_op, cases_Bool, get_or_default, All-cons, All-nil, TreesMakeProfiles, counted_by, counter_in, is_counter}
+use Rattle.exact_counts.proofs.Common.{◌≡◌, ℕ, suc, ◌+◌, ◌*◌, ◌<◌, inl, inr, not, List, [], ◌∷◌, length, Option, Some, None, refl, ap, ◌∙◌, arith, is_some, counter_width, EdgeSet, count_below, rest, Op, WorksBelow, AreCounters, is_node, links_of, snippet_on, WorksIn, counter_op, cases_Bool, get_or_default, All-cons, All-nil, TreesMakeProfiles, counted_by, counter_in, is_counter}
 use Rattle.span_tree.specs.Cells.{cell_at, cell_of, has_cell}
+use Rattle.span_tree.proofs.Numbered.{count_grows}
 use Rattle.exact_counts.proofs.Counters.{end_is, works_in}
 use Rattle.exact_counts.proofs.Noted.{tree_alike}
 
@@ -30,11 +31,6 @@ counters_from version counted k (ops ∷ snips) are =
       | inr other ↦ rw (is, other) (rw none at (rw other at later))
     ]
 
--- fewer come before an edge that is counted than there are
-fewer_before : (counted : EdgeSet) (e n : ℕ) → e < n → counted e ≡ true → count_below e counted < count_below n counted
-fewer_before counted e zero l is = absurd (omega (arith, l))
-fewer_before counted e (suc n) l is = grind (arith, fewer_before counted e n)
-
 works_below : (version : ℕ) (counted : EdgeSet) (e n : ℕ) → e < n
     → WorksBelow (counter_width version * count_below n counted) (counter_in version (cell_of counted e))
 works_below version counted e n l =
@@ -42,7 +38,7 @@ works_below version counted e n l =
     let cell = counter_width version * count_below e counted in
     elim (cases_Bool (counted e)) [
       | inl is ↦ rw is (All-cons (WorksIn cells) (counter_op version cell) []
-          (works_in version cells cell (grind (arith, fewer_before counted e n l is))) (All-nil (WorksIn cells)))
+          (works_in version cells cell (grind (arith, count_grows counted e n l is))) (All-nil (WorksIn cells)))
       | inr other ↦ rw other (All-nil (WorksIn cells))
     ]
 

@@ -15,6 +15,7 @@ pub use Rattle.cfg_blocks.specs.declared.BlockEnd.{BlockEnd}
 pub use Rattle.cfg_blocks.specs.declared.EdgeKind.{EdgeKind}
 pub use Rattle.cfg_blocks.specs.declared.switches.Switch.{Switch}
 pub use Rattle.cfg_blocks.specs.declared.switches.Value.{Value}
+pub use Rattle.cfg_normal.proofs.Cases.{same_itself}
 pub use Rattle.cfg_normal.proofs.GraphFacts.{edges_of-few, flat_few, targets_few, total_flat, total_le, ways_out-few}
 unfoldable pub use Rattle.cfg_normal.proofs.GraphFacts.{entries_of, total}
 pub use Rattle.cfg_normal.specs.Code.{IsEdgeIn, IsGraph, IsNodeIn, IsSlotIn, home_of, AreOne, AreOpenIn, IsOpenIn, IsTableIn, edges_but_landings, jump_number}
@@ -29,7 +30,7 @@ pub use Rattle.cfg_normal.specs.declared.Node.TheVariants.{Block, Landed, X}
 pub use Rattle.cfg_normal.specs.declared.Slot.{Slot as Carried}
 pub use Rattle.cfg_walk.proofs.Addresses.{next_word, word_at-address, second_address}
 pub use Rattle.cfg_walk.proofs.Cut.{IsCut, cut}
-pub use Rattle.cfg_walk.proofs.Edges.{block, copy, same_itself, same_nodes, number_of_list}
+pub use Rattle.cfg_walk.proofs.Edges.{block, copy, same_nodes, number_of_list}
 pub use Rattle.cfg_walk.proofs.Holding.{IsIn, ends_within, in_held, is_held, some_words, ends_at_next, ends_at_words, first_held}
 pub use Rattle.cfg_walk.proofs.Leaving.{end_is, is_in, node_is, straight_left, transfer_ends, way_found, end_here, ends_home, falls_to, no_cases, node_within, straight_end}
 pub use Rattle.cfg_walk.proofs.Lists.{Each, each, each-append, each-below, each-map, each-then, each_at, each-flat_map, each_in}

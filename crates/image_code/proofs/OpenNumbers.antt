@@ -1,5 +1,5 @@
 -- How many pieces there are, and their numbers, as the code finds them: all are below that.
-use Rattle.image_code.proofs.Common.{[], ◌≡◌, ℕ, suc, ◌+◌, ◌*◌, ◌<◌, ◌≤◌, Some, List, ◌∷◌, length, refl, ap, sym, ◌∙◌, arith, block_end, slice_get, slice_index, sum_by, flat_map, cond_both, Words, block, holding_of, Node, Block, Landed, X, Open, Graph, lands, IsNodeIn, in_held, is_held, some_words, ends_within, Each, each-append, each-map, each_at, lands_as, Op, take-length, lands_in, Case, Foreign, Landing, Label, case_numbers, case_piece, cases_of, enter_number, entering, foreign_number, landing_number, edges_but_landings, piece_labels, IsReached, IsWordOf, pieces_of, first_word, lands_at, ◌==◌, nat_tests, is_some, None, subst, Option, ◌-◌, Bool, true, false, inl, inr, ◌&&◌, if◌then◌else◌, nat_lt, and_parts, cases_Bool, cases_eq, ne_eqb, le-ltb, option_to_list, position, slice_get_within, Blocks, size_of, EdgeKind, Edge, jumps_in, is_copied, copy, edge_from, edge_along, same_kind, same_node, same_kinds, same_nodes, Coded-set, coded_bool, le_prop, ×_prop, Unit-prop, get_or-set_same, get_or-set_other, load_of, AreFirstImages, AreSwitchesNoted, IsSource, saved_before, image_after, image_noted, saved_by, open_begin, place_in_order, slice_index_or, sum_by_more, first_entry, take, same_Some}
+use Rattle.image_code.proofs.Common.{[], ◌≡◌, ℕ, suc, ◌+◌, ◌*◌, ◌<◌, ◌≤◌, Some, List, ◌∷◌, length, refl, ap, sym, ◌∙◌, arith, block_end, slice_get, slice_index, sum_by, cond_both, Words, block, holding_of, Node, Block, Landed, X, Open, Graph, lands, IsNodeIn, in_held, is_held, some_words, ends_within, Each, each-map, each_at, lands_as, Op, take-length, lands_in, Case, Foreign, Landing, Label, case_numbers, case_piece, cases_of, enter_number, entering, foreign_number, landing_number, edges_but_landings, piece_labels, IsReached, IsWordOf, pieces_of, first_word, lands_at, ◌==◌, nat_tests, is_some, None, subst, Option, ◌-◌, Bool, true, false, inl, inr, ◌&&◌, if◌then◌else◌, nat_lt, and_parts, cases_Bool, cases_eq, ne_eqb, le-ltb, option_to_list, position, slice_get_within, Blocks, size_of, EdgeKind, Edge, jumps_in, is_copied, copy, edge_from, edge_along, same_kind, same_node, same_kinds, same_nodes, Coded-set, coded_bool, le_prop, ×_prop, Unit-prop, get_or-set_same, get_or-set_other, load_of, AreFirstImages, AreSwitchesNoted, IsSource, saved_before, image_after, image_noted, saved_by, open_begin, place_in_order, slice_index_or, sum_by_more, first_entry, take, same_Some, each-flat_map}
 use Rattle.image_code.proofs.ImageNumbers.{has_image, listed, not_found, compare_numbered, entry_stands, jump_numbered, ordered_enters, switch_found, not_switched}
 use Rattle.image_code.proofs.Listed.{case_stands, foreign_stands, landing_stands, number_below, number_is, compare_stands, compares_apart, jump_of, load_in, no_jump, ordered_stands, switch_in, way_stands}
 use Rattle.image_code.proofs.OpenBlocks.{IsTextGraph, text_graph}
@@ -15,11 +15,6 @@ pub each_index : {A : Type 0} (P : A → Type 0) (xs : List A) → ((k : ℕ) (x
     → Each P xs
 each_index P [] h = tt
 each_index P (x ∷ xs) h = (h 0 x refl, each_index P xs (λ k y e. h (suc k) y e))
-
-pub each_of_all : {A B : Type 0} (P : B → Type 0) (f : A → List B) (xs : List A) → Each (λ x. Each P (f x)) xs
-    → Each P (flat_map f xs)
-each_of_all P f [] h = tt
-each_of_all P f (x ∷ xs) h = each-append P (f x) (flat_map f xs) h.0 (each_of_all P f xs h.1)
 
 -- what is known of a text and its graph
 pub facts_of : (text : Words) (graph : Graph) → IsSource text graph → IsTextGraph text graph
@@ -150,7 +145,7 @@ module _ (text : Words) (graph : Graph) (g : IsTextGraph text graph) where
   pub case_number_below : (entry number : ℕ) → slice_get (case_numbers text graph) entry ≡ Some number
       → number < length all
   case_number_below entry number e =
-      each_at (λ n. n < length all) _ entry number (each_of_all _ (cases_of text graph) graph.opens
+      each_at (λ n. n < length all) _ entry number (each-flat_map _ (cases_of text graph) graph.opens
       (each_index _ graph.opens (λ k o is. each-map _ (case_piece text graph o.block) o.targets
       (each_index _ o.targets (λ n word at.
       number_below text graph g (Case o.block word) _ (case_stands text graph g k o is n word at)))))) e

@@ -28,6 +28,7 @@ pub use Rattle.jump_code.specs.Leaving.{FarGoes, foreign, ForeignLeaves}
 pub use Rattle.jump_code.specs.Links.{address_into, CallsAct, IsAboutToCall, link, past}
 pub use Rattle.jump_code.specs.PageWords.{found_there, IsPageWord, saved_address, waiting}
 pub use Rattle.layout.specs.Emitting.{words_of}
+pub use Rattle.v8_alu.proofs.Ranges.{wrapped_range}
 unfoldable pub use Rattle.v8_alu.specs.Alu.{alu_of}
 pub use Rattle.v8_alu.specs.Numbers.{wrapped}
 pub use Rattle.v8_alu.specs.declared.Codes.{Codes}
@@ -37,7 +38,7 @@ pub use Rattle.v8_decode.specs.declared.Op2.TheVariants.{Imm, Reg}
 pub use Rattle.v8_encode.specs.Code.{has_word, op2_fits}
 unfoldable pub use Rattle.v8_encode.specs.Code.{encode_of}
 pub use Rattle.v8_memory.specs.Regions.{Memory, code_of, Region}
-pub use Rattle.v8_step.proofs.ValidStates.{register_of-range, wrapped-range}
+pub use Rattle.v8_step.proofs.ValidStates.{register_of-range}
 pub use Rattle.v8_step.proofs.ValidSteps.{run-valid}
 pub use Rattle.v8_step.specs.State.{State, operand_of, register_of, sum_of, with_register}
 pub use Rattle.v8_step.specs.Step.{step_of}

@@ -1,5 +1,5 @@
 -- The words of a JMPL that looks its target up, one by one.
-use Rattle.jump_code.proofs.Common.{◌≡◌, ◌≢◌, ℕ, zero, suc, ◌+◌, ◌-◌, ◌*◌, ◌/◌, ◌%◌, ◌^◌, ◌<◌, ◌≤◌, inl, inr, false, Ok, length, refl, ap, sym, ◌∙◌, subst, arith, ◌==◌, pos, Op2, Reg, Imm, alu_of, wrapped, Memory, code_of, NoSlot, State, register_of, operand_of, with_register, sum_of, step_of, mem_address_not_aligned, trapped, IsValid, IsValidMemory, register_of-range, wrapped-range, run-valid, Leads, IsBetween, IsSilent, page_word, of_page, store_word, CanStore, Stores, memory_word, Says, StandIn, Is, IsAlike, WorksInTwo, pair, says_step, works_state, works_same, leads_then, leads_weaker, silent_then, Gives, HasTwo, alu, both, equal_or_not, first, goes_on, in_two, ld_in, none_in_two, second, sethi, st_in, two_registers, nth, nth_says, word_stored, other_loaded, other_word_stored, loads_stored, still_stored, can_load, whole_of, memory_word-range, stores_then, TableAt, found_in, IsReady, says_puts, ld_traps, leads_one, silent_one, says_here, unpicked_is, table_word, IsTwoLevel, entry_at, half_at, LooksUp, FindsIt, IsAboutToFind, TrapsFinding, translate_target, found_memory, sought_memory, IsNotIn, address_into, past, IsPageWord}
+use Rattle.jump_code.proofs.Common.{◌≡◌, ◌≢◌, ℕ, zero, suc, ◌+◌, ◌-◌, ◌*◌, ◌/◌, ◌%◌, ◌^◌, ◌<◌, ◌≤◌, inl, inr, false, Ok, length, refl, ap, sym, ◌∙◌, subst, arith, ◌==◌, pos, Op2, Reg, Imm, alu_of, wrapped, Memory, code_of, NoSlot, State, register_of, operand_of, with_register, sum_of, step_of, mem_address_not_aligned, trapped, IsValid, IsValidMemory, register_of-range, wrapped_range, run-valid, Leads, IsBetween, IsSilent, page_word, of_page, store_word, CanStore, Stores, memory_word, Says, StandIn, Is, IsAlike, WorksInTwo, pair, says_step, works_state, works_same, leads_then, leads_weaker, silent_then, Gives, HasTwo, alu, both, equal_or_not, first, goes_on, in_two, ld_in, none_in_two, second, sethi, st_in, two_registers, nth, nth_says, word_stored, other_loaded, other_word_stored, loads_stored, still_stored, can_load, whole_of, memory_word-range, stores_then, TableAt, found_in, IsReady, says_puts, ld_traps, leads_one, silent_one, says_here, unpicked_is, table_word, IsTwoLevel, entry_at, half_at, LooksUp, FindsIt, IsAboutToFind, TrapsFinding, translate_target, found_memory, sought_memory, IsNotIn, address_into, past, IsPageWord}
 use Rattle.v8_decode.specs.declared.AluOp.TheVariants as ops
 use Rattle.v8_decode.specs.declared.Instr.TheVariants as i
 use Rattle.v8_decode.specs.declared.LoadKind.TheVariants as loads
@@ -74,7 +74,7 @@ module _ (x y rd rs1 : ℕ) (op2 : Op2) (address : ℕ) (t : TableAt) (s : State
   half = table_word t (half_at t (sum_of s rs1 op2))
 
   low_target : sum_of s rs1 op2 < 2 ^ 32
-  low_target = wrapped-range (register_of s rs1 + operand_of s op2)
+  low_target = wrapped_range (register_of s rs1 + operand_of s op2)
 
   -- a word of the page, after each store
   can1 : (n : ℕ) → n < 8 → CanStore m1 (page_word n)

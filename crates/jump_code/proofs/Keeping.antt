@@ -1,5 +1,5 @@
 -- The words before the load of a switch, one by one.
-use Rattle.jump_code.proofs.Common.{length, ◌≡◌, ℕ, ◌+◌, ◌<◌, ◌≤◌, Bool, false, Some, refl, ap, arith, Op2, Reg, Imm, wrapped, Memory, State, register_of, operand_of, sum_of, register_of-range, wrapped-range, of_page, store_word, CanStore, count_stores, IsFirstWord, page_word, Is, IsAlike, WorksInTwo, pair, works_same, HasTwo, IsNext, alu, both, first, goes_on, in_two, none_in_two, st_in, two_registers, word, nth, word_stored, still_stored, if◌then◌else◌, any_of_word, word_span, one_if, stores_in_step, read_is, stores_next, second_register, save_load_address, kept_memory, IsAboutToSave, SavesLoadAddress, AddressesAreSaved}
+use Rattle.jump_code.proofs.Common.{length, ◌≡◌, ℕ, ◌+◌, ◌<◌, ◌≤◌, Bool, false, Some, refl, ap, arith, Op2, Reg, Imm, wrapped, Memory, State, register_of, operand_of, sum_of, register_of-range, wrapped_range, of_page, store_word, CanStore, count_stores, IsFirstWord, page_word, Is, IsAlike, WorksInTwo, pair, works_same, HasTwo, IsNext, alu, both, first, goes_on, in_two, none_in_two, st_in, two_registers, word, nth, word_stored, still_stored, if◌then◌else◌, any_of_word, word_span, one_if, stores_in_step, read_is, stores_next, second_register, save_load_address, kept_memory, IsAboutToSave, SavesLoadAddress, AddressesAreSaved}
 use Rattle.v8_decode.specs.declared.AluOp.TheVariants as ops
 use Rattle.v8_step.specs.Run.{run}
 use Rattle.jump_code.proofs.Blocks.{gives_sum}
@@ -72,7 +72,7 @@ module _ (rs1 : ℕ) (op2 : Op2) (s : State) (h : IsAboutToSave rs1 op2 s) where
     silent = three.silent;
     stores = rw three.alike.memory at three.stores;
     kept = word_stored waits (page_word 0) (sum_of s rs1 op2)
-        (wrapped-range (register_of s rs1 + operand_of s op2)) can;
+        (wrapped_range (register_of s rs1 + operand_of s op2)) can;
     elsewhere = alone;
   }
 

@@ -36,7 +36,7 @@ none_before (r ∷ rs) from to a h k =
     let y = h.1 in
     cc (before r.lo r.hi a (omega arith), none_before rs r.hi to a h.2 (omega arith))
 
-ends_by : (rs : List NoteRange) (from to : ℕ) → Ascend from to rs → from ≤ to
+pub ends_by : (rs : List NoteRange) (from to : ℕ) → Ascend from to rs → from ≤ to
 ends_by [] from to h = h
 ends_by (r ∷ rs) from to h =
     let y = h.1 in

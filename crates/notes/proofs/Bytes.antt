@@ -15,8 +15,8 @@ pub words_bytes-cons : (w : ℕ) (ws : List ℕ) → words_bytes (w ∷ ws) ≡ 
 unfolding words_bytes
 words_bytes-cons w ws = refl
 
--- each item is n bytes
-pub length-flat_map : {X : Type 0} (f : X → List ℕ) (n : ℕ) → ((x : X) → length (f x) ≡ n) → (xs : List X) → length (flat_map f xs) ≡ n * length xs
+-- each item makes n
+pub length-flat_map : {X A : Type 0} (f : X → List A) (n : ℕ) → ((x : X) → length (f x) ≡ n) → (xs : List X) → length (flat_map f xs) ≡ n * length xs
 length-flat_map f n each [] = omega arith
 length-flat_map f n each (x ∷ xs) = simp (length-append, each x, length-flat_map f n each xs) (omega arith)
 

@@ -17,7 +17,7 @@ works_own op fits = le_refl _
 below_more : (m n : ℕ) (ops : List Op) → m ≤ n → WorksBelow m ops → WorksBelow n ops
 below_more m n ops few below = λ k d within. works_more m n (get_or ops k d) few (below k d within)
 
-none_below : (n : ℕ) → WorksBelow n []
+pub none_below : (n : ℕ) → WorksBelow n []
 none_below n = λ k d within. absurd (omega arith)
 
 below_one : (edge : ℕ) (line : List ℕ) (said : Said) → Says line said → WorksBelow (cell_end said) (on_edge edge said)

@@ -58,7 +58,7 @@ module _ (marks : List Bool) (given : List (Option ℕ)) (n : ℕ) (all : n ≡ 
 
 -- ---- a cell is below their number
 
-count_grows : (s : EdgeSet) (e n : ℕ) → e < n → s e ≡ true → count_below e s < count_below n s
+pub count_grows : (s : EdgeSet) (e n : ℕ) → e < n → s e ≡ true → count_below e s < count_below n s
 count_grows s e zero l t = absurd (omega (arith, l))
 count_grows s e (suc n) l t = let before = count_grows s e n in grind (arith, before)
 

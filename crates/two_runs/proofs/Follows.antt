@@ -71,15 +71,13 @@ own_stays : (s0 : State) (n : ℕ) (d : Ending) → (run s0 n).ending ≡ Some d
     → own_trail s0 (suc n) ≡ own_trail s0 n
 own_stays s0 n d e = rw (e, append-nil (own_trail s0 n))
 
-going : (notes : Notes) (s0 t0 : State) (n m : ℕ) (x : Option Ending) → x ≡ None
+pub going : (notes : Notes) (s0 t0 : State) (n m : ℕ) (x : Option Ending) → x ≡ None
     → MatchesBy x notes s0 t0 n m → GoesOn notes s0 t0 n m
-going notes s0 t0 n m None e h = h
-going notes s0 t0 n m (Some d) e h = absurd (cc)
+going notes s0 t0 n m x live h = rw live at h
 
-ending : (notes : Notes) (s0 t0 : State) (n m : ℕ) (x : Option Ending) (d : Ending) → x ≡ Some d
+pub ending : (notes : Notes) (s0 t0 : State) (n m : ℕ) (x : Option Ending) (d : Ending) → x ≡ Some d
     → MatchesBy x notes s0 t0 n m → Ends notes s0 t0 n m
-ending notes s0 t0 n m None d e h = absurd (cc)
-ending notes s0 t0 n m (Some c) d e h = h
+ending notes s0 t0 n m x d over h = rw over at h
 
 matched : (notes : Notes) (s0 t0 : State) (n m : ℕ) (x : Option Ending) (d : Ending) → x ≡ Some d
     → Ends notes s0 t0 n m → MatchesBy x notes s0 t0 n m

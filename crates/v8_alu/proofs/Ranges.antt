@@ -14,7 +14,7 @@ use Rattle.v8_alu.specs.Numbers.{wrapped, is_negative, complement, magnitude, di
 use Rattle.v8_alu.specs.Code.{IsOutInRange}
 use Rattle.v8_alu.specs.Alu.{alu_of, result_of, keeping, sum_out, difference_out, with_tags, trap_on_v, product_out, signed_product, unsigned_end, unsigned_quotient, dividend_magnitude, signed_end, signed_quotient, divided, shifted_right, count_of}
 
-wrapped_range : (n : ℕ) → wrapped n < 2 ^ 32
+pub wrapped_range : (n : ℕ) → wrapped n < 2 ^ 32
 wrapped_range n = omega arith
 
 complement_range : (n : ℕ) → complement n < 2 ^ 32

@@ -4,7 +4,8 @@ use Rattle.std.specs.Option.{option_map_or}
 use Rattle.std.proofs.Math.Bool.{and_assoc}
 use Rattle.byteorder.specs.Endian.{big_number}
 use Rattle.eel_base.specs.CodeText.{address_of}
-use Rattle.elf32_sparc.proofs.Accepted.{Accepted, accepted, has_text, IsFit, text_is_fit}
+use Rattle.elf32_sparc.proofs.Accepted.{Accepted, accepted, has_text, IsFit, length-words_of, text_is_fit}
+use Rattle.elf32_sparc.proofs.Padding.{padded}
 use Rattle.v8_process.specs.Fetched.{IsFirstCode, CodeIsFetched, TextIsFetched}
 
 -- ---- the code of the memory in which a file starts
@@ -123,18 +124,7 @@ word_of-words (suc count) bytes (suc k) inside =
     ∙ ap (big_number 4) (drop-drop (4 * k) 4 bytes)
     ∙ ap (λ (at : ℕ). big_number 4 (drop at bytes)) next
 
-length-words : (count : ℕ) (bytes : List ℕ) → length (words_of count bytes) ≡ count
-length-words zero bytes = refl
-length-words (suc count) bytes = ap suc (length-words count (drop 4 bytes))
-
 -- zeros after some bytes change no number
-padded : (bytes : List ℕ) (count i : ℕ) → get_or (bytes ++ replicate count 0) i 0 ≡ get_or bytes i 0
-padded [] zero i = refl
-padded [] (suc count) zero = refl
-padded [] (suc count) (suc i) = padded [] count i
-padded (b ∷ bytes) count zero = refl
-padded (b ∷ bytes) count (suc i) = padded bytes count i
-
 number-padded : (bytes : List ℕ) (count at : ℕ)
     → big_number 4 (drop at (bytes ++ replicate count 0)) ≡ big_number 4 (drop at bytes)
 number-padded bytes count at = rw (byte 0, byte 1, byte 2, byte 3) refl
@@ -154,7 +144,7 @@ header-fetched : (file : List ℕ) (texts : List (List ℕ)) (h : ProgramHeader)
 unfolding text_from
 header-fetched file texts h ok found bytes k inside =
     let fit : IsFit file h = text_is_fit file h ok found in
-    let count = length-words (h.p_memsz / 4) (memory_bytes file h) in
+    let count = length-words_of (h.p_memsz / 4) (memory_bytes file h) in
     let first : List ℕ = file_bytes file h in
     let rest = All-drop (λ b. b < 256) h.p_offset file bytes in
     code_is_fetched file texts (mapping_of file h) (text-code file h found) fit.text.aligned

@@ -1,6 +1,6 @@
 -- A first state over an empty heap is valid.
 use Rattle.v8_step.proofs.Common.{◌≡◌, ℕ, zero, suc, ◌^◌, ◌<◌, List, ◌∷◌, length, All, refl, arith, replicate, All-nil, All-cons, All-append, All-replicate, length-replicate, Memory, empty_heap, heap_room, zeros, first_state, AreBytes, IsValidHeap, IsValidMemory, IsValid}
-use Rattle.v8_step.proofs.ValidStates.{wrapped-range}
+use Rattle.v8_alu.proofs.Ranges.{wrapped_range}
 
 zeros-words : (n : ℕ) → All (λ w. w < 2 ^ 32) (zeros n)
 zeros-words zero = All-nil (λ w. w < 2 ^ 32)
@@ -28,7 +28,7 @@ first_state-valid m entry sp input h k j i = record {
         (All-cons (λ w. w < 2 ^ 32) sp (zeros 121) j (zeros-words 121));
   };
   pc = k;
-  npc = wrapped-range _;
+  npc = wrapped_range _;
   y = omega arith;
   window = omega arith;
   some_valid = omega arith;

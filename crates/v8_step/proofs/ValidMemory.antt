@@ -3,10 +3,11 @@ use Rattle.v8_step.proofs.Common.{◌≡◌, ℕ, ◌+◌, ◌-◌, ◌<◌, ◌
 
 -- ---- reading
 
-find-holds : (P : Region → Type 0) (p : Region → Bool) (rs : List Region) → All P rs → IfSome (find p rs) P
+pub find-holds : {A : Type 0} (P : A → Type 0) (p : A → Bool) (xs : List A) → All P xs → IfSome (find p xs) P
 find-holds P p [] h = tt
-find-holds P p (r ∷ rs) h =
-    cond_both (p r) _ _ (λ x. IfSome x P) (λ _. All-head P r rs h) (λ _. find-holds P p rs (All-tail P r rs h))
+find-holds P p (x ∷ xs) h =
+    cond_both (p x) (Some x) (find p xs) (λ o. IfSome o P) (λ _. All-head P x xs h)
+    (λ _. find-holds P p xs (All-tail P x xs h))
 
 part_of-bytes : (r : Region) (address count : ℕ) → AreBytes r.bytes → AreBytes (part_of r address count)
 part_of-bytes r address count h =

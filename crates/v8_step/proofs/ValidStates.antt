@@ -1,9 +1,6 @@
 -- Numbers of a valid state.
-use Rattle.v8_step.proofs.Common.{ℕ, ◌^◌, ◌<◌, arith, wrapped, State, register_of, IsValid}
+use Rattle.v8_step.proofs.Common.{ℕ, ◌^◌, ◌<◌, State, register_of, IsValid}
 use Rattle.v8_step.proofs.ValidNumbers.{register_in-range}
-
-pub wrapped-range : (n : ℕ) → wrapped n < 2 ^ 32
-wrapped-range n = omega arith
 
 pub register_of-range : (s : State) (r : ℕ) → IsValid s → register_of s r < 2 ^ 32
 register_of-range s r h = register_in-range s.registers s.window r h.registers

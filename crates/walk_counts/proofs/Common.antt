@@ -1,5 +1,5 @@
 -- The names that more than one proof cites, of this crate and of crates below, passed on from one place. Declares nothing.
-pub use Rattle.std.proofs.Common.{[], add-one, ap, arith, Bool, cond, drop, false, inl, inr, length, List, map, None, Option, refl, slice_index, Some, subst, suc, sym, true, zero, ℕ, ◌%◌, ◌&&◌, ◌++◌, ◌-◌, ◌/◌, ◌<◌, ◌∙◌, ◌∷◌, ◌≡◌, ◌≤◌}
+pub use Rattle.std.proofs.Common.{[], add-one, ap, arith, Bool, cond, false, inl, inr, length, List, map, None, Option, refl, slice_index, Some, subst, suc, sym, true, zero, ℕ, ◌%◌, ◌&&◌, ◌++◌, ◌-◌, ◌/◌, ◌<◌, ◌∙◌, ◌∷◌, ◌≡◌, ◌≤◌}
 pub use Rattle.cfg_blocks.specs.Blocks.{below, block_end, Blocks, is_among, last_word}
 unfoldable pub use Rattle.cfg_blocks.specs.Blocks.{blocks_of, leaders}
 pub use Rattle.cfg_blocks.specs.Ends.{is_transfer}
@@ -15,10 +15,10 @@ pub use Rattle.cfg_walk.specs.Walk.{by_kind, completed, edge_along, edge_from, e
 unfoldable pub use Rattle.cfg_walk.specs.Walk.{end_of_walk, walk}
 pub use Rattle.eel_base.specs.Code.{IsText}
 pub use Rattle.eel_base.specs.CodeText.{address_of, word_at, Words}
-pub use Rattle.elf32_sparc.proofs.Accepted.{Accepted, accepted, has_text, IsFit, text_is_fit}
+pub use Rattle.elf32_sparc.proofs.Accepted.{Accepted, accepted, has_text, IsFit, text_is_fit, length-words_of}
 pub use Rattle.elf32_sparc.specs.FileFault.{fault}
 pub use Rattle.elf32_sparc.specs.Header.{e_entry, is_text, loadable, program_headers, text_count, text_header}
-pub use Rattle.elf32_sparc.specs.Image.{no_text, word_number, words_of}
+pub use Rattle.elf32_sparc.specs.Image.{no_text, word_number}
 unfoldable pub use Rattle.elf32_sparc.specs.Image.{image_of, text_from, text_of}
 pub use Rattle.flows.specs.Flows.{count_below, Graph as PlainGraph}
 pub use Rattle.flows.specs.Walks.{IsWalk}

@@ -1,5 +1,5 @@
 -- Only the words of a file's text are fetched.
-use Rattle.walk_counts.proofs.Common.{zero, suc, drop, subst, ◌≡◌, ℕ, ◌/◌, ◌%◌, ◌≤◌, Bool, List, [], ◌∷◌, ◌++◌, length, map, slice_index, Option, Some, None, refl, sym, ap, ◌∙◌, arith, filter, find, option_map, option_map_or, ltb-false, Words, word_at, program_headers, loadable, is_text, text_header, text_count, fault, text_of, image_of, words_of, text_from, no_text, Accepted, accepted, IsFit, has_text, text_is_fit, AreBytes, start_memory, start_of, stack_region, program_name, OnlyTextIsFetched, IsText}
+use Rattle.walk_counts.proofs.Common.{subst, ◌≡◌, ℕ, ◌/◌, ◌%◌, ◌≤◌, Bool, List, [], ◌∷◌, ◌++◌, length, map, slice_index, Option, Some, None, refl, sym, ap, ◌∙◌, arith, filter, find, option_map, option_map_or, ltb-false, Words, word_at, program_headers, loadable, is_text, text_header, text_count, fault, text_of, image_of, text_from, no_text, Accepted, accepted, IsFit, has_text, text_is_fit, AreBytes, start_memory, start_of, stack_region, program_name, OnlyTextIsFetched, IsText, length-words_of}
 use Rattle.std.proofs.lemmas.Bool.Decides.{nat_tests}
 use Rattle.std.proofs.lemmas.List.{nil_from_length}
 use Rattle.std.proofs.lemmas.List.Sums.{length-filter}
@@ -21,10 +21,6 @@ pub record HasText (file : List ℕ) : Type 0 where
   pub text_is : IsText (text_of file)
   pub start : (text_of file).start ≡ header.p_vaddr
   pub count : length (text_of file).words ≡ header.p_memsz / 4
-
-length-words_of : (count : ℕ) (bytes : List ℕ) → length (words_of count bytes) ≡ count
-length-words_of zero bytes = refl
-length-words_of (suc count) bytes = ap suc (length-words_of count (drop 4 bytes))
 
 pub text_found : (file : List ℕ) → Accepted file → (o : Option ProgramHeader) → text_header (program_headers file) ≡ o
     → HasText file

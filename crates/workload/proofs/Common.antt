@@ -6,6 +6,7 @@ pub use Rattle.elf32_sparc.specs.Header.{e_entry, loadable, text_header, is_text
 unfoldable pub use Rattle.elf32_sparc.specs.Header.{program_headers, half_at, word_at, program_header}
 pub use Rattle.elf32_sparc.specs.Image.{words_of, highest_end, room_from, rounded_up, segment_of}
 unfoldable pub use Rattle.elf32_sparc.specs.Image.{image_of, text_from, text_of}
+pub use Rattle.notes.proofs.Bytes.{length-flat_map}
 pub use Rattle.std.proofs.lemmas.Bool.{cases_lt, le-ltb, lt-ltb, eq-eqb, lt-leb, ne_eqb, le-leb}
 pub use Rattle.std.proofs.lemmas.List.{length-map, map-append, take_all, drop-drop}
 pub use Rattle.std.proofs.lemmas.List.Sums.{sum_by-cons}

@@ -1,7 +1,6 @@
 -- The headers of a file that holds some words, and their fields.
-use Rattle.workload.proofs.Common.{◌≡◌, ℕ, ◌+◌, ◌*◌, ◌^◌, ◌<◌, ◌≤◌, List, [], ◌∷◌, ◌++◌, length, drop, refl, arith, w32, to_be_bytes, big_number, big_number-reads_back, e_entry, program_headers, bytes_of, header_words, file_of, le-leb, length-bytes_high_first, half_at, word_at, ei_magic, e_type, e_machine, e_version, e_phoff, e_ehsize, e_phentsize, e_phnum, program_header}
+use Rattle.workload.proofs.Common.{◌≡◌, ℕ, ◌+◌, ◌*◌, ◌^◌, ◌<◌, ◌≤◌, List, [], ◌∷◌, ◌++◌, length, drop, refl, arith, w32, to_be_bytes, big_number, big_number-reads_back, e_entry, program_headers, bytes_of, header_words, file_of, le-leb, length-bytes_high_first, half_at, word_at, ei_magic, e_type, e_machine, e_version, e_phoff, e_ehsize, e_phentsize, e_phnum, program_header, length-flat_map}
 use Rattle.elf32_sparc.specs.declared.header.ProgramHeader.{ProgramHeader}
-use Rattle.workload.proofs.Made.{length-flat_map}
 
 pub length-bytes_of : (ws : List ℕ) → length (bytes_of ws) ≡ 4 * length ws
 length-bytes_of = length-flat_map (to_be_bytes w32) 4 (length-bytes_high_first 4)

@@ -1,5 +1,5 @@
 -- The bytes of the program, part by part.
-use Rattle.workload.proofs.Common.{◌≡◌, ℕ, zero, suc, ◌+◌, ◌-◌, ◌*◌, ◌<◌, List, [], ◌∷◌, ◌++◌, length, map, refl, ap, arith, w32, to_be_bytes, flat_map, range_with_len, length-map, Instr, word_of, stirred, routine_from, routines_from, call_of, exit_code, routine_code, caller_code, code_of, bytes_of, header_words, generated, length-append, append_assoc, map-append}
+use Rattle.workload.proofs.Common.{◌≡◌, ℕ, zero, suc, ◌+◌, ◌-◌, ◌*◌, ◌<◌, List, [], ◌++◌, length, map, refl, ap, arith, w32, to_be_bytes, flat_map, range_with_len, length-map, Instr, word_of, stirred, routine_from, routines_from, call_of, exit_code, routine_code, caller_code, code_of, bytes_of, header_words, generated, length-append, append_assoc, map-append, length-flat_map}
 use Rattle.std.proofs.lemmas.List.FromFn.{length-range_with_len}
 use Rattle.std.proofs.lemmas.Grind.{flat_map-append}
 
@@ -32,11 +32,6 @@ one_routine count done x next below is =
     rw (more, is) refl
 
 -- ---- the whole file
-
-pub length-flat_map : {X A : Type 0} (f : X → List A) (n : ℕ) → ((x : X) → length (f x) ≡ n) → (xs : List X)
-    → length (flat_map f xs) ≡ n * length xs
-length-flat_map f n each [] = omega arith
-length-flat_map f n each (x ∷ xs) = simp (length-append, each x, length-flat_map f n each xs) (omega arith)
 
 pub length-routines : (count x : ℕ) → length (routines_from count x) ≡ count
 length-routines zero x = refl
