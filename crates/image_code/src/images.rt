@@ -28,6 +28,14 @@ const NEVER: u8 = 0;
 
 const ALWAYS: u8 = 8;
 
+// The operands of a JMPL.
+#[derive(Clone, Copy)]
+struct JumpWord {
+    rd: Reg,
+    rs1: Reg,
+    op2: Op2,
+}
+
 // ---- words and nodes
 
 /// The block of a node, near which those of the next words lie; for X the first one.
@@ -174,19 +182,13 @@ impl PieceMaker<'_> {
     }
 
     // The image of any other JMPL, which looks up in the jumps' table.
-    fn jump_out(
-        &self,
-        visit: SourceWord,
-        node: Node,
-        rd: Reg,
-        rs1: Reg,
-        op2: Op2,
-    ) -> Result<Shape, NoMemory>
+    fn jump_out(&self, visit: SourceWord, node: Node, jump: JumpWord) -> Result<Shape, NoMemory>
         requires node { IsNumbered (length self.now.graph.now.blocks.firsts) node }
-        requires fits { IsTrue (op2_fits op2) }
+        requires fits { IsTrue (op2_fits jump.op2) }
         ensures { IfOk result (λ p. p ≡ jump_by self.now.text.now self.now.graph.now self.now.jumps.0 self.now.cases.0
-            visit node rd rs1 op2) }
+            visit node jump.rd jump.rs1 jump.op2) }
     {
+        let JumpWord { rd, rs1, op2 } = jump;
         let way = self.way_out(node, EdgeKind::Out)?;
         let first = free_register(rd, rs1, &op2);
         let second = other_register(rd, rs1, &op2);
@@ -195,43 +197,29 @@ impl PieceMaker<'_> {
     }
 
     // The image of a JMPL at a block itself.
-    fn jump_at(
-        &self,
-        visit: SourceWord,
-        block: BlockNo,
-        rd: Reg,
-        rs1: Reg,
-        op2: Op2,
-    ) -> Result<Shape, NoMemory>
+    fn jump_at(&self, visit: SourceWord, block: BlockNo, jump: JumpWord) -> Result<Shape, NoMemory>
         requires block { block.0 < length self.now.graph.now.blocks.firsts }
-        requires fits { IsTrue (op2_fits op2) }
+        requires fits { IsTrue (op2_fits jump.op2) }
         ensures { IfOk result (λ p. p ≡ jump_image_by self.now.text.now self.now.graph.now self.now.jumps.0
-            self.now.cases.0 visit (Block block) rd rs1 op2) }
+            self.now.cases.0 visit (Block block) jump.rd jump.rs1 jump.op2) }
     {
         let node = Node::Block(block);
         match self.graph.jump_of(block) {
-            Some(number) => Ok(self.switch_jump(visit, rd, number)),
-            None => self.jump_out(visit, node, rd, rs1, op2),
+            Some(number) => Ok(self.switch_jump(visit, jump.rd, number)),
+            None => self.jump_out(visit, node, jump),
         }
     }
 
     // The image of a JMPL.
-    fn jump_image(
-        &self,
-        visit: SourceWord,
-        node: Node,
-        rd: Reg,
-        rs1: Reg,
-        op2: Op2,
-    ) -> Result<Shape, NoMemory>
+    fn jump_image(&self, visit: SourceWord, node: Node, jump: JumpWord) -> Result<Shape, NoMemory>
         requires node { IsNumbered (length self.now.graph.now.blocks.firsts) node }
-        requires fits { IsTrue (op2_fits op2) }
+        requires fits { IsTrue (op2_fits jump.op2) }
         ensures { IfOk result (λ p. p ≡ jump_image_by self.now.text.now self.now.graph.now self.now.jumps.0
-            self.now.cases.0 visit node rd rs1 op2) }
+            self.now.cases.0 visit node jump.rd jump.rs1 jump.op2) }
     {
         match node {
-            Node::Block(block) => self.jump_at(visit, block, rd, rs1, op2),
-            Node::Landed(_) | Node::X => self.jump_out(visit, node, rd, rs1, op2),
+            Node::Block(block) => self.jump_at(visit, block, jump),
+            Node::Landed(_) | Node::X => self.jump_out(visit, node, jump),
         }
     }
 
@@ -254,7 +242,9 @@ impl PieceMaker<'_> {
                 let way = self.way_out(node, EdgeKind::Call)?;
                 Ok(marked(visit, Head::Call, None, Exit::Piece(way)))
             }
-            Instr::Jmpl { rd, rs1, op2 } => self.jump_image(visit, node, rd, rs1, op2),
+            Instr::Jmpl { rd, rs1, op2 } => {
+                self.jump_image(visit, node, JumpWord { rd, rs1, op2 })
+            }
             _ => {
                 let edge = self.edge_behind(node, word);
                 let next = self.next_at(node, word);
