@@ -6,10 +6,7 @@ ghost use Rattle.addr_translate.specs.Translator.{Translates, translator};
 
 use eel_base::Addr;
 use v8_decode::{AluOp, Op2, Reg};
-use v8_encode::{load, operation, register, sethi, store, words};
-
-// Word 1 of the editor's page, from %g0.
-const KEPT: i32 = -4092;
+use v8_encode::{keep, load, operation, sethi, take, words};
 
 /// Twelve words that put what the table at `base` has for the address in `a` into `a`. They work in `b` too, and keep
 /// the address in word 1 of the editor's page, where it still is afterwards.
@@ -22,16 +19,16 @@ pub fn translator_code(base: Addr, a: Reg, b: Reg) -> [u32; 12]
     ensures translates { Translates result base.0 a b }
 {
     words(&[
-        store(a, register(0), Op2::Imm(KEPT)),
+        keep(a, 1),
         operation(AluOp::SRL, a, a, Op2::Imm(20)),
         operation(AluOp::AND, a, a, Op2::Imm(0xffc)),
         sethi(b, base.0),
         load(b, b, Op2::Reg(a)),
-        load(a, register(0), Op2::Imm(KEPT)),
+        take(a, 1),
         operation(AluOp::SRL, a, a, Op2::Imm(10)),
         operation(AluOp::AND, a, a, Op2::Imm(0xffc)),
         load(b, b, Op2::Reg(a)),
-        load(a, register(0), Op2::Imm(KEPT)),
+        take(a, 1),
         operation(AluOp::AND, a, a, Op2::Imm(0xffc)),
         load(a, b, Op2::Reg(a)),
     ])

@@ -9,11 +9,11 @@ ghost use Rattle.jump_code.specs.Finding.{find_words, jump_translated};
 ghost use Rattle.jump_code.specs.Leaving.{foreign};
 ghost use Rattle.jump_code.specs.Links.{link};
 
-use crate::single::{add, add_low, exchange, keep, take};
+use crate::single::{add, add_low, exchange};
 use eel_base::Addr;
 use layout::long_jump_words;
 use v8_decode::{AluOp, Op2, Reg};
-use v8_encode::{jump, load, operation, register, sethi, words};
+use v8_encode::{jump, keep, load, operation, register, sethi, take, words};
 
 /// The first words of a JMPL: they look its target up in the table of two levels at `table`, through two registers that
 /// it doesn't name.

@@ -3,37 +3,11 @@
 ghost use Rattle.std.specs.Prelude.{◌≡◌, ◌%◌, ◌<◌, false, pos};
 ghost use Rattle.v8_decode.specs.declared.AluOp.TheVariants as ops;
 ghost use Rattle.v8_decode.specs.declared.Instr.TheVariants as i;
-ghost use Rattle.v8_decode.specs.declared.LoadKind.TheVariants as loads;
 ghost use Rattle.v8_decode.specs.declared.Op2.TheVariants as o;
-ghost use Rattle.v8_decode.specs.declared.StoreKind.TheVariants as stores;
 ghost use Rattle.code_runs.specs.Code.{of_page};
 
 use v8_decode::{AluOp, Instr, Op2, Reg};
-use v8_encode::{load, operation, register, store};
-
-// Word n of the editor's page, from %g0.
-fn of_page_word(n: u8) -> Op2
-    requires few { n < 8 }
-    ensures { result ≡ of_page n }
-{
-    Op2::Imm(4 * n as i32 - 4096)
-}
-
-/// A register goes into word n of the editor's page.
-pub fn keep(rd: Reg, n: u8) -> Instr
-    requires few { n < 8 }
-    ensures { result ≡ i.Store stores.ST rd 0 (of_page n) }
-{
-    store(rd, register(0), of_page_word(n))
-}
-
-/// A register comes out of word n of the editor's page.
-pub fn take(rd: Reg, n: u8) -> Instr
-    requires few { n < 8 }
-    ensures { result ≡ i.Load loads.LD rd 0 (of_page n) }
-{
-    load(rd, register(0), of_page_word(n))
-}
+use v8_encode::{of_page_word, operation, register};
 
 /// A register and word n of the editor's page are exchanged.
 pub fn exchange(rd: Reg, n: u8) -> Instr

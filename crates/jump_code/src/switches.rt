@@ -7,9 +7,9 @@ ghost use Rattle.layout.specs.Emitting.{words_of};
 ghost use Rattle.jump_code.specs.Choosing.{jump_by_case};
 ghost use Rattle.jump_code.specs.Keeping.{save_load_address};
 
-use crate::single::{add, add_low, exchange, keep, take};
+use crate::single::{add, add_low, exchange};
 use v8_decode::{Op2, Reg};
-use v8_encode::{jump, load, register, sethi, words};
+use v8_encode::{jump, keep, load, register, sethi, take, words};
 
 /// The words before a load with these operands, whose address they keep.
 pub fn save_load_address_code(rs1: Reg, op2: Op2) -> [u32; 3]

@@ -12,23 +12,19 @@ ghost use Rattle.layout.specs.Emitting.{words_of};
 
 use std::alloc::AllocError;
 use v8_decode::{Cond, Instr, Op2};
-use v8_encode::{branch, condition, jump, load, nop, register, sethi, store, word, words};
-
-// Word 0 of the editor's page, from %g0.
-const FIRST_WORD: i32 = -4096;
+use v8_encode::{branch, condition, jump, keep, nop, register, sethi, take, word, words};
 
 /// A jump to an address, which keeps %g1 in the editor's page meanwhile.
 pub fn long_jump_words(to: u32) -> [u32; 4]
     ensures words { result ≡ words_of (long_jump to) }
     ensures decodes { map decode_of result ≡ long_jump to }
 {
-    let zero = register(0);
     let first = register(1);
     words(&[
-        store(first, zero, Op2::Imm(FIRST_WORD)),
+        keep(first, 0),
         sethi(first, to),
         jump(first, Op2::Imm((to % 1024) as i32)),
-        load(first, zero, Op2::Imm(FIRST_WORD)),
+        take(first, 0),
     ])
 }
 

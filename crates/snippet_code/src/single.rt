@@ -1,13 +1,12 @@
 //! Single instructions, and the words that spill a register.
 
-ghost use Rattle.std.specs.Prelude.{◌≡◌, ◌+◌, ◌<◌, true};
+ghost use Rattle.std.specs.Prelude.{◌≡◌, ◌<◌, true};
 ghost use Rattle.v8_decode.specs.declared.Instr.TheVariants as i;
 ghost use Rattle.v8_encode.specs.Encoding.{word_of};
-ghost use Rattle.code_runs.specs.Code.{of_page};
 ghost use Rattle.snippet_code.specs.Words as words;
 
 use v8_decode::{AluOp, Instr, Op2, Reg};
-use v8_encode::{branch, condition, load, operation, register, store, word};
+use v8_encode::{branch, condition, keep, load, operation, register, store, take, word};
 
 /// Loads the word at an address whose upper bits a register has.
 pub fn load_low(address: u32, base: Reg, rd: Reg) -> Instr
@@ -99,20 +98,12 @@ pub fn next_if_greater() -> Instr
     branch(condition(12), true, 2)
 }
 
-// The words of the editor's page in which registers are kept, from %g0.
-fn kept(n: usize) -> Op2
-    requires few { n < 5 }
-    ensures { result ≡ of_page (n + 2) }
-{
-    Op2::Imm(4 * (n as i32 + 2) - 4096)
-}
-
 /// A register goes into the editor's page.
 pub fn save(n: usize, reg: Reg) -> u32
     requires few { n < 5 }
     ensures { result ≡ word_of (words.save n reg) }
 {
-    word(store(reg, register(0), kept(n)))
+    word(keep(reg, n as u8 + 2))
 }
 
 /// A register comes out of the editor's page.
@@ -120,5 +111,5 @@ pub fn restore(n: usize, reg: Reg) -> u32
     requires few { n < 5 }
     ensures { result ≡ word_of (words.restore n reg) }
 {
-    word(load(reg, register(0), kept(n)))
+    word(take(reg, n as u8 + 2))
 }

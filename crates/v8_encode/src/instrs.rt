@@ -1,9 +1,10 @@
 //! Code that is made: its registers and conditions, instructions that it is often made of, and its words.
 
-ghost use Rattle.std.specs.Prelude.{◌≡◌, ◌/◌, ◌<◌, IsTrue, false, map};
+ghost use Rattle.std.specs.Prelude.{◌≡◌, ◌*◌, ◌-ℤ◌, ◌/◌, ◌<◌, IsTrue, false, map, pos};
 ghost use Rattle.std.specs.List.{list_all};
 ghost use Rattle.v8_decode.specs.declared.Instr.TheVariants as i;
 ghost use Rattle.v8_decode.specs.declared.LoadKind.TheVariants as loads;
+ghost use Rattle.v8_decode.specs.declared.Op2.TheVariants as o;
 ghost use Rattle.v8_decode.specs.declared.StoreKind.TheVariants as stores;
 ghost use Rattle.v8_decode.specs.Words.{decode_of};
 ghost use Rattle.v8_encode.specs.Code.{has_word, words_of};
@@ -97,6 +98,30 @@ pub fn store(rd: Reg, rs1: Reg, op2: Op2) -> Instr
         rs1,
         op2,
     }
+}
+
+/// Word n of the editor's page, from %g0.
+pub fn of_page_word(n: u8) -> Op2
+    requires few { n < 8 }
+    ensures { result ≡ o.Imm (pos (4 * n) -ℤ pos 4096) }
+{
+    Op2::Imm(4 * n as i32 - 4096)
+}
+
+/// A register goes into word n of the editor's page.
+pub fn keep(rd: Reg, n: u8) -> Instr
+    requires few { n < 8 }
+    ensures { result ≡ i.Store stores.ST rd 0 (o.Imm (pos (4 * n) -ℤ pos 4096)) }
+{
+    store(rd, register(0), of_page_word(n))
+}
+
+/// A register comes out of word n of the editor's page.
+pub fn take(rd: Reg, n: u8) -> Instr
+    requires few { n < 8 }
+    ensures { result ≡ i.Load loads.LD rd 0 (o.Imm (pos (4 * n) -ℤ pos 4096)) }
+{
+    load(rd, register(0), of_page_word(n))
 }
 
 /// A jump without a link.

@@ -14,7 +14,8 @@ use v8_decode::{AluOp, Cond, Instr, LoadKind, Op2, Reg, StoreKind};
 mod instrs;
 
 pub use instrs::{
-    branch, condition, jump, load, nop, operation, register, sethi, store, word, words,
+    branch, condition, jump, keep, load, nop, of_page_word, operation, register, sethi, store,
+    take, word, words,
 };
 
 // A word's bits so far, and after them a field of `width` bits.
