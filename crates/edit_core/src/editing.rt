@@ -121,12 +121,16 @@ fn write_edit<F: Chooser>(
     ensures { IfOk result (λ file. IsWritten bytes.now (plan_of (numbers tool.now.marks) request) file.items) }
 {
     let addresses = AddressMap::above(image, request.cells);
-    let new = new_code(alloc, image, graph, request)?;
-    let added = added_segments(alloc, addresses, &new)?;
-    let noted = notes(alloc, bytes, image, graph, tool, new.placed, &added)?;
+    let NewCode {
+        placed,
+        entry,
+        tables,
+    } = new_code(alloc, image, graph, request)?;
+    let added = added_segments(alloc, addresses, tables, &placed.code)?;
+    let noted = notes(alloc, bytes, image, graph, tool, placed, &added)?;
     let notes = write_notes(alloc, &noted)?;
     drop(noted);
-    let file = write_around(alloc, bytes, image, &added, new.entry, &notes)?;
+    let file = write_around(alloc, bytes, image, &added, entry, &notes)?;
     Ok(file)
 }
 
@@ -134,26 +138,26 @@ fn write_edit<F: Chooser>(
 fn added_segments(
     alloc: Global,
     addresses: AddressMap,
-    new: &NewCode,
+    tables: Vec<u8>,
+    code: &[u32],
 ) -> Result<Vec<NewSegment>, NoMemory>
     requires few { addresses.cells ≤ 2 ^ 23 }
-    requires low { table_after addresses.base.0 addresses.cells + length new.now.tables.items
-        + 4 * length new.now.placed.code.items ≤ 2 ^ 31 }
+    requires low { table_after addresses.base.0 addresses.cells + length tables.items + 4 * length code.now ≤ 2 ^ 31 }
     ensures segments { IfOk result (λ v. map segment_seen v.items
         ≡ if_any addresses.cells (cells_at addresses.base.0 addresses.cells)
-        ++ table_at (record { base = table_after addresses.base.0 addresses.cells; bytes = new.now.tables.items })
-        ∷ code_at (table_after addresses.base.0 addresses.cells + length new.now.tables.items) new.now.placed.code.items
+        ++ table_at (record { base = table_after addresses.base.0 addresses.cells; bytes = tables.items })
+        ∷ code_at (table_after addresses.base.0 addresses.cells + length tables.items) code.now
         ∷ page_segment_of ∷ []) }
-    ensures tables { OnOk result (AreBytes new.now.tables.items) }
-    ensures code { OnOk result (All (λ word. word < 2 ^ 32) new.now.placed.code.items) }
+    ensures tables { OnOk result (AreBytes tables.items) }
+    ensures code { OnOk result (All (λ word. word < 2 ^ 32) code.now) }
 {
     let mut added = Vec::new(alloc);
     if addresses.cells > 0 {
         added.push(cells_segment(alloc, addresses.base, addresses.cells))?;
     }
-    let code = addresses.code(new.tables.len() as u32);
-    added.push(tables_segment(alloc, addresses.table(), &new.tables)?)?;
-    added.push(code_segment(alloc, code, &new.placed.code)?)?;
+    let above = addresses.code(tables.len() as u32);
+    added.push(tables_segment(addresses.table(), tables))?;
+    added.push(code_segment(alloc, above, code)?)?;
     added.push(page_segment(alloc)?)?;
     Ok(added)
 }

@@ -36,23 +36,26 @@ pub(crate) fn cells_segment(alloc: Global, base: Addr, cells: u32) -> NewSegment
 }
 
 /// Tables of addresses, which can only be read.
-pub(crate) fn tables_segment(
-    alloc: Global,
-    vaddr: Addr,
-    bytes: &[u8],
-) -> Result<NewSegment, NoMemory>
-    requires { length bytes.now < 2 ^ 32 }
-    ensures segment { IfOk result (λ s. segment_seen s ≡ table_at (record { base = vaddr.0; bytes = bytes.now })) }
-    ensures bytes { OnOk result (AreBytes bytes.now) }
+pub(crate) fn tables_segment(vaddr: Addr, bytes: Vec<u8>) -> NewSegment
+    requires { length bytes.items < 2 ^ 32 }
+    ensures segment { segment_seen result ≡ table_at (record { base = vaddr.0; bytes = bytes.items }) }
+    ensures bytes { AreBytes bytes.items }
 {
-    let mut copy = Vec::new(alloc);
-    copy.extend_from_slice(bytes)?;
-    Ok(NewSegment {
+    NewSegment {
         vaddr,
-        memsz: bytes.len() as u32,
+        memsz: count_bytes(&bytes),
         flags: TABLE,
-        bytes: copy,
-    })
+        bytes,
+    }
+}
+
+// How many bytes there are.
+fn count_bytes(bytes: &[u8]) -> u32
+    requires { length bytes.now < 2 ^ 32 }
+    ensures count { result ≡ length bytes.now }
+    ensures bytes { AreBytes bytes.now }
+{
+    bytes.len() as u32
 }
 
 /// New code, which can be executed and not written.
