@@ -220,6 +220,32 @@ def faults_installed(folder):
         yield f'eel --uninstall leaves {os.listdir(prefix)}'
 
 
+def explained(folder):
+    """What is wrong with the lines that `eel` adds where EEL_EXPLAIN is 1, also of a run that is interrupted."""
+    eel, program, told, looping = f'EEL_EXPLAIN=1 {quote(EEL)}', quote(PROGRAM), quote(folder), os.path.join(folder, 'looping')
+    plus = f'{told}/for_plus && printf "\\0\\22" | dd of={told}/for_plus bs=1 seek=18 conv=notrunc 2>/dev/null'
+    for command, *wanted in ((f'{eel} show {told}/missing', DEVICE, "missing isn't there"),
+                             (f'{eel} edit {program} {told}/missing/out every', DEVICE, 'there is no folder'),
+                             (f'{eel} shwo {program}', WORDS, 'there is no command `shwo`'),
+                             (f'{eel} edit {program} {told}/out prfile', WORDS, '`prfile` is none of plain'),
+                             (f'{eel} run {program} -n ten </dev/null', WORDS, '`ten` is none'),
+                             (f'cp {program} {plus}; {eel} show {told}/for_plus', CONTENTS, 'V8+ is another; compile and link'),
+                             (f'{eel} counts {program} {told}/lines', CONTENTS, 'was not written by `eel edit`'),
+                             (f'{eel} run {program} -d {told}/out </dev/null', CONTENTS, '`run -d` wants such a one')):
+        if fault := fault_of(['bash', '-c', command], *wanted):
+            yield f'{command}: {fault}'
+    with open(looping, 'wb') as made:
+        made.write(Program('looping', '10800000 01000000', 0, '').file())
+    subprocess.run([EEL, 'edit', looping, f'{looping}.written', 'every'], capture_output=True, check=True)
+    with subprocess.Popen([EEL, 'run', f'{looping}.written', '-n', f'{10 ** 15}', '-d', f'{looping}.dump'], stdin=subprocess.DEVNULL,
+                          stderr=subprocess.PIPE, env={**os.environ, 'EEL_EXPLAIN': '1'}, start_new_session=True) as begun:
+        runs = wait_for(begun, True)
+        os.killpg(begun.pid, signal.SIGINT if runs else signal.SIGKILL)  # as a terminal does, to both
+        errors = begun.communicate(timeout=SECONDS)[1].decode()
+    if begun.returncode != 130 or 'interrupted: no dump was written' not in errors:
+        yield f'eel run -d: status {begun.returncode} by an interrupt: {errors}'
+
+
 def fault_of(words, refused, told=''):
     """What is wrong with the answer to a call, or None. It is refused by a status that isn't 0, or by that number, and says
     what is wanted."""
@@ -249,7 +275,7 @@ def main():
         calls += [(['bash', '-c', command], *wanted) for command, *wanted in told(folder)]
         in_turn = [(['bash', '-c', command], status) for command, status in streams(folder)]  # of which the first makes a file
         faults = 0
-        for fault in chain(faults_installed(folder), interrupted(folder)):
+        for fault in chain(faults_installed(folder), interrupted(folder), explained(folder)):
             print(fault, flush=True)
             faults += 1
         with ThreadPoolExecutor(min(8, len(os.sched_getaffinity(0)))) as pool:

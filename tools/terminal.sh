@@ -36,11 +36,12 @@ tell_times() {
     done
 }
 
-# The processor's seconds that the program below this shell has taken: few, while it still reads its input.
+# The processor's seconds that the program below this shell has taken: few, while it still reads its input. Of this shell's
+# children it is the one that has taken most, whatever its name. Behind the name stand its state and its parent.
 seconds_of_run() {
     cat /proc/[0-9]*/stat 2>/dev/null | awk -v parent=$$ -v ticks="$(getconf CLK_TCK)" '
-        $2 == "(eel_main)" && $4 == parent { seconds = int(($14 + $15) / ticks) }
-        END { print seconds + 0 }'
+        sub(/^.*\) /, "") && $2 == parent && $12 + $13 > most { most = $12 + $13 }
+        END { print int(most / ticks) }'
 }
 
 tell_interrupt() {
