@@ -29,7 +29,7 @@ from programs import C_PROGRAMS, SMALL
 # What documents name of the world outside: programs, and words of file formats and of the standards.
 OUTSIDE = set('''apt awk bash bzip2 c callgrind callgrind_annotate clang cmp cp cpufreq dd dot eel false gcc gcov gdb
 genhtml git graphviz kill kcachegrind lcov ld llvm lua make man massif mkdir nm nproc objcopy objdump od perf python3 qemu
-readelf rt sed sh sparc strip true valgrind x Fn __muldf3 __udivdi3'''.split())
+readelf rt sed sh sparc strip true valgrind x Fn memset __muldf3 __udivdi3'''.split())
 # Paths of every machine, and those that a document tells its reader to make.
 EVERYWHERE = re.compile(r'/(?:dev/(?:null|full|stdout)|tmp(?:/(?:walk|real)\b.*)?|usr/bin/(?:time|env))')
 

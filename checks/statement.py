@@ -32,7 +32,7 @@ STATEMENT = 'docs/STATEMENT.md'
 # The sections, in order, with what each states: definitions of specs as `crate Name`, functions of src as `crate::name`,
 # and files of `eel_reports/specs/Answers` and `eel/specs/Answers` with all in them that the last section needs.
 SECTIONS = {
-    'page': ['edit_core DoesTheSame'],
+    'outward': ['edit_core DoesTheSame'],
     'headline': ['edit_core IsFaithful'],
     'cost': ['edit_core HasBoundedCost'],
     'edits': ['Edit.antt', 'Restore.antt', 'Script.antt', 'ScriptLines.antt'],
@@ -45,7 +45,7 @@ SECTIONS = {
 }
 # The rows of the table of figures: what must be read for these sections' statements alone.
 FIGURES = {
-    'the page-long theorem': ['page'],
+    'the outward theorem': ['outward'],
     'the headline': ['headline'],
     'the headline and its cost': ['headline', 'cost'],
     '`eel` and `run_words`': ['frame'],
