@@ -10,8 +10,9 @@ is a row of a table that begins as another one does, by a name.
 Of all documents together: README.md has at most 130 lines; docs/REFERENCE.md has the commands that the launcher's --help,
 the manual page, the completions and the parser have, each status, line of an outcome, trap and limit of a file, each script,
 and each key of the schema of a profile; a figure with its unit (a build's minutes, must-fail edits, and the like) is one of
-the figures of docs/PERFORMANCE.md. What is counted there must be what is here: exactly, and of lines within a fiftieth.
---write counts it anew. A commit at which something was measured and that the repository lacks is said, and is no fault. How
+the figures of docs/PERFORMANCE.md, also where minutes and seconds are said in words, outside of tables; docs/PROVING.md may
+have others of its own. A figure of so many of so many stands in one document. What PERFORMANCE.md counts must be what is
+here: exactly, and of lines within a fiftieth. --write counts it anew. A commit at which something was measured and that the repository lacks is said, and is no fault. How
 many arguments there may be is said as the definition has it. docs/layers.svg has the crates of docs/layers.dot, by layers,
 docs/MAP.md those of crates.txt, and checks/README.md the scripts beside it. The formulas of docs/STATEMENT.md are those of
 the clause and of its definition.
@@ -206,8 +207,11 @@ class Document:
 README, REFERENCE, PERFORMANCE = 'README.md', 'docs/REFERENCE.md', 'docs/PERFORMANCE.md'
 MOST_LINES = 130
 KNOWN_ENDS = 'programs with known ends'
-UNITS = '|'.join(['processor minutes', 'minutes', 'MB', 'GB of disk', 'GB of memory', 'GB afterwards',
+UNITS = '|'.join(['processor minutes', 'minutes', 'seconds', 'MB', 'GB of disk', 'GB of memory', 'GB afterwards',
                   'million steps a second', 'must-fail edits', KNOWN_ENDS])
+IN_WORDS = dict(zip('two three four five six seven eight nine ten twelve twenty'.split(), '2 3 4 5 6 7 8 9 10 12 20'.split()))
+SPELLED = re.compile(rf'\b(?:{"|".join(IN_WORDS)})(?= (?:minutes|seconds)\b)')
+ROUGH = 'docs/PROVING.md'  # whose seconds are those of single functions
 NUMBER = r'\d[\d.,]*'
 FIGURE = re.compile(rf'({NUMBER}(?: to {NUMBER})?) ({UNITS})\b|({NUMBER} to {NUMBER})\s+(times)\b|'
                     rf'\b(?:the|all|its)\s+({NUMBER})\s+(programs)\b')
@@ -368,6 +372,11 @@ def write_counted():
         out.write(told)
 
 
+def in_digits(text):
+    """The text with minutes and seconds in digits, but for tables: there a reader's own time stands in words."""
+    return re.sub(r'(?m)^(?!\|).*', lambda line: SPELLED.sub(lambda found: IN_WORDS[found[0]], line[0]), text)
+
+
 def figures_in(text):
     """The figures in a text, each as its number, its unit, and the number of its line."""
     for found in FIGURE.finditer(text):
@@ -385,10 +394,15 @@ def figure_faults(documents):
     known = {figure[:2] for figure in figures_in(section(stated, 'Figures'))}
     known |= {(f'{count:,}', what) for what, count in said.items()}
     known |= {(number, unit) for numbers, unit in known for number in numbers.split(' to ')}
+    pairs = {}
     for name in documents:
-        for figure, unit, number in figures_in(read(name)) if name != PERFORMANCE else ():
-            if (figure, unit) not in known:
+        text = read(name)
+        for figure, unit, number in figures_in(text if name == ROUGH else in_digits(text)) if name != PERFORMANCE else ():
+            if (figure, unit) not in known and (name, unit) != (ROUGH, 'seconds'):
                 yield f'{name}:{number}: {figure} {unit}: not so in {PERFORMANCE}'
+        for pair in re.findall(rf"\b({NUMBER}) of (?:[\w']+ )?({NUMBER}\d)\b", text):
+            if pairs.setdefault(pair, name) != name:
+                yield f'{name}: {" of ".join(pair)}: in {pairs[pair]}, too'
 
 
 def formula_faults():
