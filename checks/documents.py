@@ -5,17 +5,17 @@ Which names name nothing: it looks at links with their headings, and at what sta
 commands: paths; crates, calls, types and definitions, which must occur in the code; clauses, which the call named before
 them must have; commands of `eel` and options of scripts. The documents are README.md, those of docs/, and a README.md
 beside other files. A name stands in the code where it occurs outside of comments. A path of one machine is a fault, and so
-is a row of a table that begins as another one does, by a name.
+is a row of a table that begins as another one does, by a name, or a line of text with more than 130 characters.
 
 Of all documents together: README.md has at most 130 lines; docs/REFERENCE.md has the commands that the launcher's --help,
 the manual page, the completions and the parser have, each status, line of an outcome, trap and limit of a file, each script,
 and each key of the schema of a profile; a figure with its unit (a build's minutes, must-fail edits, and the like) is one of
 the figures of docs/PERFORMANCE.md, also where minutes and seconds are said in words, outside of tables; docs/PROVING.md may
 have others of its own. A figure of so many of so many stands in one document. What PERFORMANCE.md counts must be what is
-here: exactly, and of lines within a fiftieth. --write counts it anew. A commit at which something was measured and that the repository lacks is said, and is no fault. How
-many arguments there may be is said as the definition has it. docs/layers.svg has the crates of docs/layers.dot, by layers,
-docs/MAP.md those of crates.txt, and checks/README.md the scripts beside it. The formulas of docs/STATEMENT.md are those of
-the clause and of its definition.
+here: exactly, and of lines within a fiftieth. --write counts it anew. A commit at which something was measured and that the
+repository lacks is said, and is no fault. How many arguments there may be is said as the definition has it. docs/layers.svg
+has the crates of docs/layers.dot, by layers, docs/MAP.md those of crates.txt, and checks/README.md the scripts beside it.
+The formulas of docs/STATEMENT.md are those of the clause and of its definition.
 """
 import glob
 import json
@@ -116,6 +116,8 @@ class Document:
             if in_block or line.startswith('    '):
                 self.commands(number, line)
             else:
+                if len(line) > WIDEST and not line.startswith('|'):
+                    self.bad.append((number, line[:40], f'a line of {len(line)} characters'))
                 for span in re.findall(r'`([^`]+)`', line):
                     self.span(number, span)
         self.clauses()
@@ -206,6 +208,7 @@ class Document:
 
 README, REFERENCE, PERFORMANCE = 'README.md', 'docs/REFERENCE.md', 'docs/PERFORMANCE.md'
 MOST_LINES = 130
+WIDEST = 130
 KNOWN_ENDS = 'programs with known ends'
 UNITS = '|'.join(['processor minutes', 'minutes', 'seconds', 'MB', 'GB of disk', 'GB of memory', 'GB afterwards',
                   'million steps a second', 'must-fail edits', KNOWN_ENDS])

@@ -237,8 +237,9 @@ def explained(folder):
     with open(looping, 'wb') as made:
         made.write(Program('looping', '10800000 01000000', 0, '').file())
     subprocess.run([EEL, 'edit', looping, f'{looping}.written', 'every'], capture_output=True, check=True)
-    with subprocess.Popen([EEL, 'run', f'{looping}.written', '-n', f'{10 ** 15}', '-d', f'{looping}.dump'], stdin=subprocess.DEVNULL,
-                          stderr=subprocess.PIPE, env={**os.environ, 'EEL_EXPLAIN': '1'}, start_new_session=True) as begun:
+    words = [EEL, 'run', f'{looping}.written', '-n', f'{10 ** 15}', '-d', f'{looping}.dump']
+    with subprocess.Popen(words, stdin=subprocess.DEVNULL, stderr=subprocess.PIPE, env={**os.environ, 'EEL_EXPLAIN': '1'},
+                          start_new_session=True) as begun:
         runs = wait_for(begun, True)
         os.killpg(begun.pid, signal.SIGINT if runs else signal.SIGKILL)  # as a terminal does, to both
         errors = begun.communicate(timeout=SECONDS)[1].decode()
