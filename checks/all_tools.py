@@ -1,7 +1,7 @@
 #!/usr/bin/env python3
 """Calls each script of tools/ in each way on programs in C, and says what came of it, a line a program.
 
-The eleven programs of beside_gcov.py are built by gcc and by clang with -g at -O0, -O1 and -O2, and at -O2 with -flto,
+The eleven programs of beside_gcov.py are built by gcc and by clang with -g at -O0, -Og, -O1 and -O2, and at -O2 with -flto,
 with -gsplit-dwarf and stripped: so many lines have gcov's count, so many of the twenty hottest, and at -O0 so many
 functions callgrind's calls. `standing` are programs of
 crates/program_runs, `endings` small ones that end by each trap, and `large` is a text of 200,000 words.

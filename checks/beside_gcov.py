@@ -1,7 +1,7 @@
 #!/usr/bin/env python3
 """Compares the lines' counts of source_counts.py with those of gcov.
 
-Eleven programs of examples/c are built by gcc and by clang with -g at -O0, -O1 and -O2, profiled by ./eel and printed by
+Eleven programs of examples/c are built by gcc and by clang with -g at -O0, -Og, -O1 and -O2, profiled by ./eel and printed by
 source_counts.py; and built for this machine at -O0 and run for gcov. Of the lines that both have it is said how many
 have the same count. That takes sparc64-linux-gnu-gcc, clang, and `gcc -m32` (the packages gcc-sparc64-linux-gnu, clang
 and gcc-12-multilib).
@@ -18,7 +18,7 @@ SOURCES, DATA = os.path.join(TOP, 'examples', 'c'), os.path.join(TOP, 'crates', 
 PROGRAMS = ['queens', 'fractions', 'interpreter', 'word_count', 'calculator', 'dispatch', 'samples', 'sieve',
             'long_numbers', 'jobs', 'barriers']
 ARGUMENTS = {'sieve': ['20000']}
-LEVELS = ['-O0', '-O1', '-O2']
+LEVELS = ['-O0', '-Og', '-O1', '-O2']
 HOTTEST = 20
 # Else gcov's own calls of them count, where a program has functions of these names.
 RENAMED = ['-Dmemcpy=copy_bytes', '-Dmemmove=move_bytes']

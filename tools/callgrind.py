@@ -46,18 +46,13 @@ class Callgrind:
         self.counts, self.shown, self.debug, self.costs = counts, counts.shown, counts.debug, counts.costs
         self.mix = InstructionMix(counts.shown, counts.run)
         self.own = {address: self.mix.costs(address) for address in self.mix.kinds}
-        self.declared = {start: function.line for function in self.debug.functions.values() for start in function.starts}
         self.calls, self.copies = defaultdict(list), defaultdict(list)
-        self.routines = {start: Body(self.shown.name_of(start), self.line_of(start))
+        self.routines = {start: Body(self.shown.name_of(start), counts.line_of(start))
                          for start in {*map(self.shown.routine_of, self.own)}}
         self.bodies = {address: self.routines[self.shown.routine_of(address)] for address in sorted(self.own)}
         if with_copies:
             self.find_copies()
         self.share()
-
-    def line_of(self, start):
-        """Where a routine is declared, or begins."""
-        return self.declared.get(start) or self.debug.line_at.get(start)
 
     def find_copies(self):
         """Outer copies come first, so that each word is the innermost one's. One in its own function is part of that."""
@@ -69,7 +64,7 @@ class Callgrind:
                     parts[self.bodies[address]].append(address)
             for outer, addresses in parts.items():
                 entered = self.counts.entries(copy.entry, copy.words) if copy.entry in addresses else 0
-                body = Body(function.name, function.line, copy, addresses, entered or self.counts.times(addresses[0]))
+                body = Body(function.name, function.line, copy, addresses, entered or self.counts.run.times(addresses[0]))
                 self.bodies.update(dict.fromkeys(addresses, body))
                 self.copies[outer].append(body)
 
@@ -101,7 +96,7 @@ class Callgrind:
     def calls_at(self, address, line):
         """The calls of an instruction, each with what it cost."""
         for call, costs in self.calls[address]:
-            yield f'cfi={path_of(self.line_of(call.callee))}'
+            yield f'cfi={path_of(self.counts.line_of(call.callee))}'
             yield f'cfn={self.costs.name_of(call.callee)}'
             yield f'calls={call.count} {self.position(call.callee, self.debug.line_at.get(call.callee))}'
             yield self.position(address, line) + numbers(costs)
@@ -125,7 +120,7 @@ class Callgrind:
                     yield f'jfi={self.path_at(target, there)}'
                 if there is not own:
                     yield f'jfn={there.name}'
-                counts = f'jcnd={count}/{self.counts.times(address)}' if is_conditional else f'jump={count}'
+                counts = f'jcnd={count}/{self.counts.run.times(address)}' if is_conditional else f'jump={count}'
                 yield f'{counts} {self.position(target, target_line)}'
                 yield self.position(address, line)
 
@@ -161,7 +156,7 @@ class Callgrind:
         """What calls the routines that no routine calls."""
         yield from (f'fl={UNKNOWN}', f'fn={START_NAME}')
         for start, count, costs in self.roots:
-            yield from (f'cfi={path_of(self.line_of(start))}', f'cfn={self.costs.name_of(start)}',
+            yield from (f'cfi={path_of(self.counts.line_of(start))}', f'cfn={self.costs.name_of(start)}',
                         f'calls={count} {self.position(start, self.debug.line_at.get(start))}', f'0x00000000 0{numbers(costs)}')
         yield ''
 

@@ -75,7 +75,7 @@ class GcovJson:
     def line(self, line, count):
         names = (self.symbol_of.get(self.part_of(address)) for address in self.words[line])
         name = next(filter(None, names), self.owner.get(line))
-        has_unexecuted = not count or any(has_work(self.shown.word(address)) and not self.counts.times(address)
+        has_unexecuted = not count or any(has_work(self.shown.word(address)) and not self.run.times(address)
                                           for address in self.words[line])
         return {'line_number': line.number, 'count': count, 'unexecuted_block': has_unexecuted,
                 'branches': self.branches[line], **({'function_name': name} if name else {})}

@@ -2,7 +2,7 @@
 import bisect
 from collections import defaultdict
 
-from shown import NOP, is_transfer
+from shown import NOP
 
 MOST_TOGETHER = 12  # blocks of a line that are looked at together
 BRANCH_ALWAYS = 0x10800000, 0xdfc00000
@@ -78,14 +78,11 @@ class LineCounts:
         self.lines.update((line, count) for line, count in self.marked().items() if count or not self.lines.get(line))
         self.unsure = {debug.line_at[address] for address in run.unsure if address in debug.line_at}
 
-    def times(self, address):
-        return self.run.words.get(address, 0)
-
     def block_of(self, address):
-        """The block that holds a word or, of a delay slot, that of its transfer."""
+        """The block that holds a word or, of a delay slot, that of its transfer; what stands behind a `b,a` is none."""
         block = self.shown.block_of(address)
         before = self.shown.block_of(address - 4) if block and block.first == address else None
-        return before if before and is_transfer(self.shown.word(address - 4)) else block
+        return before if before and self.shown.slot_of(before)[0] == address else block
 
     def passes_of(self, routine):
         if routine not in self.passes:
@@ -144,5 +141,5 @@ class LineCounts:
     def greatest(self, low, high):
         """The greatest count of the words in a range, or of that at its begin where it is empty."""
         if high - low <= 4:
-            return self.run.words.get(low, 0)
-        return max(map(self.times, self.debug.words(low, high)), default=self.times(low))
+            return self.run.times(low)
+        return max(map(self.run.times, self.debug.words(low, high)), default=self.run.times(low))

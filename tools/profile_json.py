@@ -73,7 +73,7 @@ class ProfileJson:
         costs = self.counts.costs
         starts = {start for start in self.shown.starts if self.shown.block_of(start).first in self.code}
         for start in sorted(starts | costs.own.keys(), key=lambda start: start or 0):
-            yield {'address': hexadecimal(start), 'name': self.shown.name_of(start), **place(self.report.line_of(start)),
+            yield {'address': hexadecimal(start), 'name': self.shown.name_of(start), **place(self.counts.line_of(start)),
                    'instructions': costs.own.get(start, 0), 'with_calls': costs.inclusive.get(start, 0),
                    'calls': costs.calls_of(start), 'exact': start not in self.report.unsure}
 

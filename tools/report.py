@@ -32,15 +32,10 @@ class Report:
         self.shown, self.run, self.debug, self.filters, self.paths = shown, run, debug, filters, set()
         self.counts = SourceCounts(shown, run, debug)
         self.unsure = {shown.routine_of(address) for address in run.unsure if run.words[address]}
-        self.declared = {start: function.line for function in debug.functions.values() for start in function.starts}
         self.routines = {start for start in [None, *shown.starts] if filters.takes_function(shown.name_of(start))}
 
     def share(self, count):
         return share(count, self.run.total)
-
-    def line_of(self, start):
-        """Where a routine is declared, or begins."""
-        return self.declared.get(start) or self.debug.line_at.get(start)
 
     def takes(self, routine, line):
         return routine in self.routines and self.filters.takes_line(line)
@@ -61,7 +56,7 @@ class Report:
     def functions(self, most):
         costs = self.counts.costs
         ranked = sorted(filter(costs.own.get, costs.own), key=lambda start: (-costs.own[start], start or 0))
-        chosen, hidden = self.split(ranked, lambda start: self.takes(start, self.line_of(start)), costs.own.get, most)
+        chosen, hidden = self.split(ranked, lambda start: self.takes(start, self.counts.line_of(start)), costs.own.get, most)
         rest, is_sure = sum(map(costs.own.get, hidden)), self.unsure.isdisjoint(hidden)
         rows = [(self.share(costs.own[start]), figure(costs.own[start], start not in self.unsure),
                  self.share(costs.inclusive[start]), known(costs.calls_of(start)), self.shown.name_of(start)) for start in chosen]

@@ -105,6 +105,12 @@ def trace_of(shown, name):
 class Run:
     """How often a run went which way, by the edges of the program."""
 
+    def edge(self, edge):
+        return self.edges.get(edge.number, 0)
+
+    def times(self, address):
+        return self.words.get(address, 0)
+
     def jumps(self):
         """Each jump through a register that was made, and how often."""
         for edge in self.shown.edges:
@@ -182,9 +188,6 @@ class Executions(Run):
         for address in range(last + 4, block.last() + 4, 4) if last is not None else ():
             self.words[address] -= ended
 
-    def edge(self, edge):
-        return self.edges.get(edge.number, 0)
-
 
 class Visits(Run):
     """How often a run carried out the word at each address, as it was counted: exactly, and up to where it stood. How
@@ -230,9 +233,6 @@ class Visits(Run):
             else:
                 yield self.blocks[block.first] - (shown.entry == block.first), into
                 yield self.words[block.last()], out
-
-    def edge(self, edge):
-        return self.edges.get(edge.number, 0)
 
     def is_known(self, edge):
         return edge.way() in self.ways

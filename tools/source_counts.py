@@ -43,21 +43,26 @@ class SourceCounts:
         counted = LineCounts(shown, run, debug)
         self.lines, self.unsure = reached(counted.lines, debug, run), counted.unsure
 
-    def times(self, address):
-        return self.run.words.get(address, 0)
+    @functools.cached_property
+    def declared(self):
+        return {start: function.line for function in self.debug.functions.values() for start in function.starts}
+
+    def line_of(self, start):
+        """Where a routine is declared, or begins."""
+        return self.declared.get(start) or self.debug.line_at.get(start)
 
     def entries(self, address, words):
         """How often an inlined copy was entered: by the edges that lead to its entry from words that aren't its own."""
         block = self.shown.blocks.get(address)
         if block is None:
-            return self.times(address)
+            return self.run.times(address)
         return sum(self.run.edge(edge) for edge in block.into
                    if edge.source is None or self.shown.blocks[edge.source].last() not in words)
 
     def calls(self, function):
         copies = sum(self.entries(copy.entry, copy.words) for copy in function.copies)
         calls = (self.costs.calls_of(start) if start in self.shown.routines else None for start in function.starts)
-        return copies + sum(self.times(start) if count is None else count for start, count in zip(function.starts, calls))
+        return copies + sum(self.run.times(start) if count is None else count for start, count in zip(function.starts, calls))
 
     @functools.cached_property
     def functions(self):
@@ -75,7 +80,7 @@ class SourceCounts:
 
     def routine(self, start):
         calls, line = self.costs.calls_of(start), self.debug.line_at.get(start)
-        return Called(self.shown.name_of(start), line, self.times(start) if calls is None else calls, calls is not None)
+        return Called(self.shown.name_of(start), line, self.run.times(start) if calls is None else calls, calls is not None)
 
     def sources(self):
         """The counts of each source, by numbers of lines."""
@@ -93,7 +98,7 @@ def reached(lines, debug, run):
     for function in debug.functions.values():
         for entered in function.starts + [copy.entry for copy in function.copies if copy.is_said]:
             if (function.line, debug.body_at.get(entered)) not in known:
-                lines[function.line] = lines.get(function.line, 0) + run.words.get(entered, 0)
+                lines[function.line] = lines.get(function.line, 0) + run.times(entered)
     return lines
 
 

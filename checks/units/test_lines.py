@@ -14,7 +14,9 @@ import dwarf
 from debug_lines import DebugLines, Line, Row, below, is_plain
 from line_counts import LineCounts, Passes, most_apart
 from shown import Shown
+from sparc import NOP, OR, TICC, branch, form3
 
+ALWAYS = 8
 GCC = 'sparc64-linux-gnu-gcc'
 OPTIONS = ['-m32', '-mcpu=v8', '-msoft-float', '-ffreestanding', '-nostdlib', '-static', '-fno-pie', '-no-pie', '-g',
            '-fno-asynchronous-unwind-tables', '-Wl,-z,noexecstack', '-Wl,--build-id=none']
@@ -173,6 +175,13 @@ class Lines(unittest.TestCase):
         self.run.words.update({0x10070: 0})
         self.own.holding.append(self.own.blocks[self.own.firsts[-1]])  # one word more, which didn't run
         self.assertEqual(counted(self.own, self.run, {0x10058: line}, [marked]), {2: 5})
+
+    def test_behind_a_branch_that_annuls_count_once(self):
+        words = [branch(ALWAYS, 0, 3), NOP, branch(ALWAYS, 1, 3), form3(2, 2, OR, 0, ('i', 2)), form3(2, 3, OR, 0, ('i', 3)),
+                 form3(2, 1, OR, 0, ('i', 1)), form3(2, ALWAYS, TICC, 0, ('i', 16))]
+        own = Shown(given.written(given.program(words)))
+        line_at = {0x10060: Line('a.c', 2), 0x10064: Line('a.c', 2)}
+        self.assertEqual(counted(own, given.run_in(own)[0], line_at), {2: 1})
 
     def test_in_blocks_that_exclude_each_other_add_up(self):
         blocks = {'test': ['then', 'else'], 'then': ['end'], 'else': ['end'], 'end': []}
