@@ -21,6 +21,11 @@ gc.disable()  # what is made of a program stays to the end: to look through it a
 OTHER_MACHINES = {3: 'Intel 386', 8: 'MIPS', 20: 'PowerPC', 21: 'PowerPC 64', 22: 'S/390', 40: 'ARM', 62: 'x86-64', 183: 'AArch64',
                   243: 'RISC-V'}  # by the numbers in ELF headers
 NAMES_HELP = 'names of routines: lines of `nm`, an address and a name'
+# Lines of nm: of a symbol that is defined elsewhere or nowhere; and of another, with its size perhaps (-S), whose name may
+# have spaces (-C) and its line behind it (-l).
+UNDEFINED = re.compile(r'\s*[Uwv]\s')
+NAMED = re.compile(r'\s*(?P<address>[0-9a-fA-F]{1,16})\s+(?:(?:[0-9a-fA-F]{8}|[0-9a-fA-F]{16})\s+(?=[A-Za-z]\s))?'
+                   r'(?:(?P<kind>[A-Za-z])\s+)?(?P<name>\S(?:[^\t]*[^\s])?)\s*(?:\t.*)?')
 
 
 def call_eel(*words, given=b'', stdout=subprocess.PIPE):
@@ -110,6 +115,11 @@ class Edge:
 NOP = 0x01000000
 
 
+def is_address(text):
+    """Whether a word is meant as the address of a routine that perhaps a run alone shows: with 0x, or of eight digits."""
+    return re.fullmatch('0[xX][0-9a-fA-F]+|[0-9a-fA-F]{8}', text) is not None
+
+
 def is_call(word):
     """Whether a word is a CALL, or a JMPL that links."""
     return word is not None and (word >> 30 == 1 or word & 0xfff80000 == 0x9fc00000)
@@ -192,13 +202,13 @@ class Shown:
     def named(self, names):
         """The routines of a file with lines of `nm`, or of addresses and names."""
         for at, line in enumerate(read_lines(names), 1):
-            words = line.split()
-            if not words or words[0] == 'U':
+            if not line.strip() or UNDEFINED.match(line):
                 continue
-            if not re.fullmatch('[0-9a-fA-F]{1,16}', words[0]) or len(words) < 2:
+            found = NAMED.fullmatch(line)
+            if not found:
                 refuse(f'{names}: line {at}: no line of nm')
-            if len(words) == 2 or words[-2] in 'tTwWi':
-                yield int(words[0], 16), words[-1]
+            if (found['kind'] or 'T') in 'tTwWi':
+                yield int(found['address'], 16), found['name']
 
     def take_names(self, pairs):
         """Gives routines names, and adds those that weren't known where a block begins, behind nops perhaps, or within one."""
@@ -290,9 +300,9 @@ class Shown:
         return f'{address:08x} {self.name_of(start)}{behind}'
 
     def routine_called(self, name):
-        """Where the routine of a name or an address in hexadecimal begins."""
+        """Where the routine of a name or an address in hexadecimal begins; a name goes before an address."""
         found = [start for start, own in self.routines.items() if name == own or own.startswith(name + '(')]
-        found = found or [start for start in self.starts if f'{start:08x}' == name.removeprefix('0x').zfill(8)]
+        found = found or [start for start in self.starts if f'{start:08x}' == name.lower().removeprefix('0x').zfill(8)]
         if len(found) != 1:
             near = '' if found else self.names_near(name)
             refuse(f'{self.name} has {"several routines" if found else "no routine"} {name}{near}', WORDS)

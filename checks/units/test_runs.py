@@ -73,6 +73,18 @@ class Names(unittest.TestCase):
         self.assertEqual(own.routines, {0x10054: 'start', 0x1006c: 'stops', 0x10078: 'pointed'})
         self.assertEqual(own.inner, {0x1006c, 0x10078})
 
+    def test_may_be_those_of_nm_with_each_of_its_options(self):
+        lines = ['         U missing', '         w weak', '                 v object', '00010054 T f(int, char)',
+                 '00010058 t operator new(unsigned int)\t/src/a.cc:3', '0001005c 00000008 T g(T<int, int>)', '00010060 plain name',
+                 '00010064 T', '00010068 D data', '', '0001006C W T']
+        found = list(self.own.named(given.written('\n'.join(lines))))
+        self.assertEqual(found, [(0x10054, 'f(int, char)'), (0x10058, 'operator new(unsigned int)'), (0x1005c, 'g(T<int, int>)'),
+                                 (0x10060, 'plain name'), (0x10064, 'T'), (0x1006c, 'T')])
+
+    def test_go_before_addresses(self):
+        own = Shown(self.own.name, given.written('00010054 T start\n0001006c T add\n'))
+        self.assertEqual([own.routine_called(name) for name in ('add', '0x1006C', '1006c', '0001006c')], [0x1006c] * 4)
+
     def test_have_their_instructions_and_calls(self):
         for counted, calls in ('every', 1), ('visits', None):
             own = Shown(self.own.name, self.names)
