@@ -27,8 +27,9 @@ PROGRAM, DATA = os.path.join(TOP, 'examples', 'three_words'), os.path.join(TOP, 
 # Options of profile.py that don't fit, and what is said of them.
 MISFITS = {'--top 0': "'0' is no number from 1 on", '--min-percent 101': "'101' is no number from 0 to 100",
            '--min-percent nan': "'nan' is no number", '--all --top 3': '--all and --top exclude each other',
-           '--json a --counts a': 'a would be written twice', '--json - --lcov': '`-` wants no other',
-           '--json - --gcov-json -': '`-` wants no other', '--json - --top 1': '`-` wants no other',
+           '--json a --counts a': 'a would be written twice', '--json a --counts ./a': 'a would be written twice',
+           '--json - --lcov': '`-` wants no other', '--json - --gcov-json -': '`-` wants no other',
+           '--json - --top 1': '`-` wants no other',
            **{f'--{printer} {option}': f'--{printer} takes no {option.split()[0]}'
               for printer, option in [('lcov', '--top 3'), ('annotate', '--function place'), ('graph', '--min-percent 1'),
                                       ('callgrind', '--source-file a.c'), ('folded', '--top 1'), ('source', '--function a')]}}
@@ -105,6 +106,43 @@ def streams(folder):
         yield f'cat {counts} | {tools}/{script} {program} /dev/stdin', 0
     yield f'{tools}/merge.py <(cat {counts}) {counts}', 0
     yield f'{tools}/compare.py {program} <(cat {counts}) {program} {counts}', 0
+    for words in printing(program, counts, folder):
+        yield f'{tools}/{words} >/dev/full', DEVICE
+        yield f'{tools}/{words} >&-', DEVICE
+    yield f'{tools}/annotate.py {folder}/missing 2>/dev/full', MISSING
+    yield f'{tools}/profile.py --top 0 {program} 2>/dev/full', WORDS
+
+
+def printing(program, counts, folder):
+    """Calls of each script of tools/ by which it prints."""
+    yield from (f'{script} {program} {counts}' for script in SHOWN)
+    yield from (f'check.py {program}', f'check.py {folder}/text', f'edges.py {program} 00010054', f'merge.py {counts} {counts}',
+                f'compare.py {program} {counts} {counts}', f'patch.py {program} {folder}/empty {folder}/patched',
+                *(f'profile.py {form} {program} </dev/null' for form in ('--all', '--annotate', '--folded', '--json -')))
+    yield from (f'{os.path.basename(file)} {option}' for file in commands().values() for option in ('--help', '--version'))
+
+
+def overwritten(folder):
+    """Commands of bash that would write over what is read, by whatever name, each with its status and what it must say."""
+    tools, data, folder = map(quote, [os.path.join(TOP, 'tools'), DATA, folder])
+    said = WORDS, 'would be written over what is read'
+    begin = f'cd $(mktemp -d -p {folder}) && cp {data}/queens own && ln -s own link && ln own other && echo a >given && touch lines'
+    end = f'status=$?; cmp {data}/queens own && [ -s given ] && exit $status'
+    for option in '--counts', '--output', '--json', '--gcov-json':
+        for words in 'own own', 'link own', 'other own', 'own ./link', '$PWD/given --input given own', 'own --names own link':
+            yield f'{begin}; {tools}/profile.py {option} {words} 0<>{folder}/never; {end}', *said
+        yield f'{begin}; {tools}/profile.py {option} given own <given; {end}', *said
+    yield from ((f'{begin}; {tools}/patch.py {words}; {end}', *said) for words in ('own lines link', 'link given ./given'))
+
+
+def patched(folder):
+    """The same of outputs of patch.py: a pipe keeps its mode, and a disk may be full."""
+    tools, data, folder = map(quote, [os.path.join(TOP, 'tools'), DATA, folder])
+    patch = f'{tools}/patch.py {data}/queens {folder}/empty {folder}'
+    yield f'mkfifo -m 640 {folder}/pipe; cmp {data}/queens {folder}/pipe & {patch}/pipe && wait $! && stat -c %a {folder}/pipe', 0, '\n640\n'
+    yield f'ulimit -f 1; {patch}/large', DEVICE, 'File too large'
+    yield f'{patch}/missing/out', DEVICE, 'No such file or directory'
+    yield f'umask 022; {patch}/made && stat -c %a {folder}/made', 0, '\n755\n'
 
 
 def told(folder):
@@ -115,6 +153,7 @@ def told(folder):
     yield f'{tools}/profile.py --lcov {program} {never}', CONTENTS, 'has no line tables'
     yield f'{tools}/profile.py --annotate --routine plac {data}/queens {never}', WORDS, 'there is place.constprop.0'
     yield f'{tools}/profile.py {python} {never}', CONTENTS, 'file fault'
+    yield f'{tools}/profile.py --graph --routine add {data}/queens {never}', WORDS, 'no routine add'
     yield f'{tools}/profile.py --function plcae {data}/queens {never}', WORDS, 'no function plcae; there is place.constprop.0'
     yield f'{tools}/profile.py --source-file queens.c {data}/queens {never}', CONTENTS, 'has no line tables'
     yield f'{tools}/profile.py --gcov-json {folder}/lines {data}/queens {never}', CONTENTS, 'has no line tables'
@@ -273,7 +312,7 @@ def main():
         calls = [([path, '--help'], False) for path in scripts()]
         calls += [([f'{TOP}/{file}', '--version'], 0, first_line(EEL, '--version')) for file in commands().values()]
         calls += wrong_calls(folder)
-        calls += [(['bash', '-c', command], *wanted) for command, *wanted in told(folder)]
+        calls += [(['bash', '-c', command], *wanted) for command, *wanted in chain(told(folder), overwritten(folder), patched(folder))]
         in_turn = [(['bash', '-c', command], status) for command, status in streams(folder)]  # of which the first makes a file
         faults = 0
         for fault in chain(faults_installed(folder), interrupted(folder), explained(folder)):

@@ -215,9 +215,8 @@ def main():
     with said_if_long('it is edited'):
         why = refused(words.file)
     if why:
-        print(f'{words.file}: can be edited: no: {why}')
-        if 'file fault' in why:
-            print(f'  {explained(words.file, why.split()[2])}')
+        more = [f'  {explained(words.file, why.split()[2])}'] if 'file fault' in why else []
+        print_lines([f'{words.file}: can be edited: no: {why}', *more])
         return REFUSED
     with said_if_long('its instructions are looked through'):
         shown = Shown(words.file, words.names)

@@ -1,6 +1,7 @@
 """How a run ended and where it stands, by the dump of an edited file's run; and what traps are."""
 import array
 import bisect
+import re
 import struct
 import sys
 from collections import Counter
@@ -23,6 +24,7 @@ TRAPS = {
     133: ('software trap 5', 'the compiler\'s trap: what must not be reached, `__builtin_trap`'),
 }
 ENDINGS = ['stopped', 'exit', 'trap', 'window', 'couple']
+ENDING_LINE = re.compile(rb'(?:(?:exit|trap|stopped) \d+|window|couple)\n\Z')
 
 
 def trap_name(number):
@@ -51,6 +53,11 @@ class Ending:
                 'couple': 'a branch, a call or a jump stands in the delay slot of another',
                 'stopped': 'interrupted: these are its first steps' if self.was_interrupted else
                            'the limit of steps was reached: -n says more'}.get(self.kind)
+
+
+def said_before_end(errors):
+    """What a program wrote to its error stream, before the line by which `eel run` tells its ending."""
+    return ENDING_LINE.sub(b'', errors)
 
 
 def ending_of(dump, was_interrupted=False):

@@ -6,7 +6,7 @@ before them or not; what begins with `#` is left out. Those that say another ins
 address are put there, and the program so changed is written as OUT. What was changed is printed. A routine's name may
 stand where a branch or a CALL leads.
 """
-from scripting import Parser, opened_for_output, print_lines, read_lines, refuse, script
+from scripting import Parser, opened_for_output, print_lines, read_lines, refuse, refuse_loss, script, write_pieces
 
 import os
 import re
@@ -77,11 +77,10 @@ def main():
     parser.add_argument('listing', metavar='LISTING', help='lines of instructions')
     parser.add_argument('out', metavar='OUT', help='the changed program')
     words = parser.parse_args()
+    refuse_loss([words.out], [words.file, words.listing])
     patch = Patch(Shown(words.file), words.listing)
     file = patch.file()
-    with opened_for_output(words.out) as out:
-        out.write(file)
-    os.chmod(words.out, os.stat(words.file).st_mode & 0o777)
+    write_pieces(opened_for_output(words.out, os.stat(words.file).st_mode & 0o777), [file])
     print_lines(patch.lines())
 
 

@@ -13,10 +13,9 @@ Where it can't be run the status is from 64 to 78, as of `eel run`, and the erro
 run, of which then the first steps alone are profiled.
 """
 from scripting import (DEVICE, EEL, MISSING, Parser, note, opened_for_output, print_lines, read_all, read_file, refuse,
-                       said_if_long, script, wants_built, why)
+                       refuse_loss, said_if_long, script, wants_built, why, write_pieces)
 
 import argparse
-import gzip
 import importlib
 import os
 import re
@@ -26,17 +25,17 @@ import sys
 import tempfile
 import threading
 import time
-from contextlib import nullcontext
+import zlib
 
 from debug_lines import ROOT_HELP, DebugLines
-from endings import ending_of, place_of, stray_jump
+from endings import ending_of, place_of, said_before_end, stray_jump
 from filters import Filters, add_options
 from gcov_json import GcovJson
 from profile_json import ProfileJson
 from report import FUNCTIONS, Report
 from runs import run_of
 from dwarf import Elf
-from shown import NAMES_HELP, Shown, call_eel, explained, figure, status_of
+from shown import NAMES_HELP, Shown, call_eel, explained, figure, is_address, status_of
 from source_counts import INLINED_HELP, tell_limits
 
 LIMIT = 10 ** 11
@@ -140,7 +139,7 @@ class Session:
         filters = self.words.filters
         if self.words.names or self.words.routine or filters.function is not None:
             shown = self.tables.shown()
-            if self.words.routine and not re.fullmatch('(0x)?[0-9a-fA-F]+', self.words.routine):
+            if self.words.routine and not is_address(self.words.routine):
                 shown.routine_called(self.words.routine)
             filters.want_function(shown, lambda: self.tables.read()[1])
         if filters.source_file is not None:
@@ -150,11 +149,10 @@ class Session:
         """Runs the written file; what the program put out goes on."""
         called = watched(['run', self.written, '-n', str(limit), '-d', self.dump, '--', *self.words.args], self.given,
                          output)
-        *own, _ = called.stderr.rstrip(b'\n').split(b'\n')
         if called.returncode:
             self.refuse(called, self.words.output or 'the error stream')
-        if output != subprocess.DEVNULL and own and sys.stderr:
-            sys.stderr.buffer.write(b'\n'.join(own) + b'\n')
+        if output != subprocess.DEVNULL and (own := said_before_end(called.stderr)) and sys.stderr:
+            sys.stderr.buffer.write(own if own.endswith(b'\n') else own + b'\n')
             sys.stderr.flush()
 
     def run_or_begin(self, limit, output):
@@ -317,8 +315,13 @@ def misfits(words):
         yield '--all and --top exclude each other'
     if '-' in words.forms.values() and (words.printer or words.filters.options() or len(words.forms) > 1):
         yield '`-` wants no other option that says what is printed'
-    written = list(filter(None, [words.output, words.counts, *words.forms.values()]))
-    yield from (f'{name} would be written twice' for name in written if written.count(name) > 1)
+    paths = [os.path.realpath(name) for name in written_by(words)]
+    yield from (f'{name} would be written twice' for name, path in zip(written_by(words), paths) if paths.count(path) > 1)
+
+
+def written_by(words):
+    """The names of the files that are written."""
+    return [*filter(None, [words.output, words.counts]), *(name for name in words.forms.values() if name != '-')]
 
 
 def temporary_folder():
@@ -338,6 +341,7 @@ def status_by(ending, is_own):
 def main():
     words = parsed()
     read_file(words.file)
+    refuse_loss(written_by(words), [words.file, words.input or 0, *filter(None, [words.names])])
     tool = 'profile' if words.weights or words.edges else 'every'
     with temporary_folder() as folder:
         session = Session(words, folder)
@@ -349,7 +353,7 @@ def main():
         session.given = program_input(words.input)
         ending = profiled(words, session, tool, output)
         if kept:
-            keep(kept, [read_file(session.counts)])
+            write_pieces(kept, [read_file(session.counts)])
         with said_if_long('the program and its lines are read'):
             (shown, debug), stands = session.tables.read(), place_of(read_file(session.written), ending.pc)
         with said_if_long('what was counted is read'):
@@ -370,15 +374,6 @@ def main():
     return status_by(ending, words.exit_status)
 
 
-def keep(kept, pieces, is_compressed=False):
-    """Writes what was counted to a file of the caller's."""
-    try:
-        with kept, gzip.GzipFile('', 'wb', fileobj=kept, mtime=0) if is_compressed else nullcontext(kept) as out:
-            out.writelines(pieces)
-    except OSError as error:
-        refuse(f'{kept.name}: {why(error)}', DEVICE)
-
-
 def write_forms(words, told, ending, stands, files):
     """Writes the forms in JSON that were asked for, to files or to the standard output."""
     counted = 'weights' if words.weights else 'edges' if words.edges else 'every'
@@ -389,7 +384,15 @@ def write_forms(words, told, ending, stands, files):
                 print_lines(made.lines())
                 tell_limits(told.counts, words.file, [])
             else:
-                keep(files[name], (f'{line}\n'.encode() for line in made.lines()), name.endswith('.gz'))
+                lines = (f'{line}\n'.encode() for line in made.lines())
+                write_pieces(files[name], packed(lines) if name.endswith('.gz') else lines)
+
+
+def packed(pieces):
+    """The same as gzip packs it, without a time."""
+    packer = zlib.compressobj(9, wbits=31)
+    yield from map(packer.compress, pieces)
+    yield packer.flush()
 
 
 def report(words, told, ending, places):

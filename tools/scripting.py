@@ -24,10 +24,18 @@ WORDS, CONTENTS, MISSING, MEMORY, DEVICE, UNBUILT = 64, 65, 66, 70, 74, 78
 LONGEST, PIECE = 2 ** 30, 2 ** 24  # bytes of a file, and of what is read of it at a time
 
 
+def silence(stream):
+    """Lets what else goes to a stream that failed go nowhere: else the end of the script would fail, too."""
+    os.dup2(os.open(os.devnull, os.O_WRONLY), stream.fileno())
+
+
 def note(line):
     """One line on the error stream."""
-    if sys.stderr:
-        print(f'{os.path.basename(sys.argv[0])}: {line}', file=sys.stderr)
+    try:
+        if sys.stderr:
+            print(f'{os.path.basename(sys.argv[0])}: {line}', file=sys.stderr)
+    except OSError:
+        silence(sys.stderr)
 
 
 def refuse(line, status=CONTENTS):
@@ -37,11 +45,13 @@ def refuse(line, status=CONTENTS):
 
 
 def end_shortly(kind, raised, trace):
-    """An interrupt ends a script without a line, by its signal, and want of memory by one line."""
+    """An interrupt ends a script without a line, by its signal; want of memory, and a file or a device that failed, by one."""
     if issubclass(kind, KeyboardInterrupt):
         signal.signal(signal.SIGINT, signal.SIG_IGN)  # another one changes nothing
     elif issubclass(kind, MemoryError):
         refuse('out of memory', MEMORY)
+    elif issubclass(kind, OSError):
+        refuse(f'{raised.filename}: {why(raised)}' if raised.filename else why(raised), DEVICE)
     else:
         sys.__excepthook__(kind, raised, trace)
 
@@ -85,9 +95,16 @@ class Parser(argparse.ArgumentParser):
         super().__init__(description=text, formatter_class=argparse.RawDescriptionHelpFormatter, usage=usage)
         self.add_argument('--version', action=VersionAction, nargs=0, help='print the version and the commit of eel, and exit')
 
+    def print_help(self, file=None):
+        if file is None:
+            print_lines(self.format_help().splitlines())
+        else:
+            super().print_help(file)
+
     def error(self, message):
-        self.print_usage(sys.stderr)
-        self.exit(WORDS, f'{self.prog}: {message}\n')
+        if sys.stderr:
+            self.print_usage(sys.stderr)
+        refuse(message, WORDS)
 
 
 def wants_built():
@@ -128,12 +145,31 @@ def read_lines(name):
     return lines[:-1] if lines[-1] == '' else lines
 
 
-def opened_for_output(name):
-    """A file to be written."""
+def refuse_loss(outputs, inputs):
+    """Refuses to write over a file that is read, by whatever name; of streams it is their number. A device or a pipe loses
+    nothing so."""
+    for name in outputs:
+        for read in inputs:
+            with contextlib.suppress(OSError, ValueError):  # of what isn't there
+                if os.path.isfile(name) and os.path.samefile(name, read):
+                    refuse(f'{name} would be written over what is read', WORDS)
+
+
+def opened_for_output(name, mode=0o666):
+    """A file to be written. Its mode is that of a new one, but for what the user's mask takes away."""
     try:
-        return open(name, 'wb')
+        return open(name, 'wb', opener=lambda path, flags: os.open(path, flags, mode))
     except (OSError, ValueError) as error:
         refuse(f'{name}: {why(error)}', DEVICE)
+
+
+def write_pieces(out, pieces):
+    """Writes a file that was opened for that, and closes it."""
+    try:
+        with out:
+            out.writelines(pieces)
+    except OSError as error:
+        refuse(f'{out.name}: {why(error)}', DEVICE)
 
 
 def print_lines(lines):
@@ -144,7 +180,7 @@ def print_lines(lines):
         sys.stdout.writelines(f'{line}\n' for line in lines)
         sys.stdout.flush()
     except BrokenPipeError:
-        os.dup2(os.open(os.devnull, os.O_WRONLY), sys.stdout.fileno())
+        silence(sys.stdout)
     except OSError as error:
-        os.dup2(os.open(os.devnull, os.O_WRONLY), sys.stdout.fileno())
+        silence(sys.stdout)
         refuse(f'standard output: {error.strerror}', DEVICE)
