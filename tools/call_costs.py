@@ -3,6 +3,7 @@ import copy
 from collections import Counter, defaultdict
 from dataclasses import dataclass, replace
 
+from recursions import solved
 from shown import is_call, is_return
 
 POINTER, POINTER_NAME = -1, '(through a pointer)'  # the node from which calls come whose caller isn't known
@@ -232,41 +233,3 @@ def share_out(cost, calls, weights, elsewhere):
         before += weight
         call.cost = round(cost * (before / whole)) - given if whole else 0
         given += call.cost
-
-
-def solved(costs, calls):
-    """What a call of each of some routines costs, with those that it leads to, and how often a routine is called within
-    one call of its own, that one included: for each routine what it costs itself, and how many calls of others it makes.
-
-    With A the numbers of calls, this is x = costs + A x, and the diagonal of the inverse of 1 - A. Routines are taken out
-    one by one, those with the fewest neighbours first, and then put back in turn: of the inverse only those entries are
-    worked out that are needed (Takahashi's equations)."""
-    rows, columns = {node: Counter() for node in costs}, {node: set() for node in costs}
-    for caller, callee, number in calls:
-        rows[caller][callee] += number
-        columns[callee].add(caller)
-    left, steps, costs = dict.fromkeys(costs), [], dict(costs)
-    while left:
-        node = min(left, key=lambda node: len(rows[node]) * len(columns[node]))
-        del left[node]
-        row, above = rows.pop(node), columns.pop(node)
-        pivot = 1 - row.pop(node, 0)
-        above.discard(node)
-        for callee in row:
-            columns[callee].discard(node)
-        factors = {caller: rows[caller].pop(node) / pivot for caller in above}
-        for caller, factor in factors.items():
-            costs[caller] += factor * costs[node]
-            for callee, number in row.items():
-                rows[caller][callee] += factor * number
-                columns[callee].add(caller)
-        steps.append((node, pivot, row, factors))
-    each, inverse = {}, {}
-    for node, pivot, row, factors in reversed(steps):
-        each[node] = (costs[node] + sum(number * each[callee] for callee, number in row.items())) / pivot
-        for callee in row:
-            inverse[callee, node] = sum(inverse[callee, caller] * factor for caller, factor in factors.items())
-        for caller in factors:
-            inverse[node, caller] = sum(number * inverse[callee, caller] for callee, number in row.items()) / pivot
-        inverse[node, node] = (1 + sum(number * inverse[callee, node] for callee, number in row.items())) / pivot
-    return each, {node: inverse[node, node] for node in each}

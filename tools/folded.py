@@ -17,7 +17,7 @@ class Folded:
         self.costs, self.least, self.stacks, self.group_of = costs, max(1, total // PARTS), Counter(), {}
         nodes = sorted({*costs.own, *costs.below, *costs.above, *costs.roots}, key=lambda node: node or 0)
         for group in components(nodes, [(call.caller, call.callee) for call in costs.calls]):
-            self.group_of.update(dict.fromkeys(group, group))
+            self.group_of.update(dict.fromkeys(group, dict.fromkeys(group)))
         waiting = [((), root, costs.rest_of(root)) for root in costs.roots]
         while waiting:
             waiting += self.divide(*waiting.pop())
