@@ -18,7 +18,6 @@ from scripting import (DEVICE, EEL, MISSING, Parser, note, opened_for_output, pr
 import argparse
 import importlib
 import os
-import re
 import shutil
 import subprocess
 import sys
