@@ -2,8 +2,9 @@
 import os
 import sys
 
-sys.path.insert(1, os.path.join(os.path.dirname(os.path.dirname(os.path.abspath(__file__))), 'tools'))
-from scripting import BUILT, EEL, TOP, UNBUILT, Parser, note, read_file, refuse
+sys.path.insert(1, os.path.join(os.path.dirname(os.path.dirname(os.path.abspath(__file__))), 'tools', 'python'))
+from eeltools.entry import end_shortly
+from eeltools.scripting import BUILT, EEL, TOP, UNBUILT, Parser, note, read_file, refuse
 
 import argparse
 import shutil
@@ -13,6 +14,8 @@ import judge
 
 __all__ = ['BUILT', 'EEL', 'TOP', 'note', 'read_file', 'refuse', 'parser_of', 'natural', 'read_program', 'input_of', 'built', 'needs',
            'heed_signals']
+
+sys.excepthook = end_shortly
 
 
 def parser_of(text, usage=None):

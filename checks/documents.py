@@ -161,7 +161,7 @@ class Document:
         if not paths:
             self.bad.append((number, script, 'no such script'))
             return
-        modules = {f'{os.path.dirname(path)}/{name}.py' for path in paths for name in re.findall(r'^from (\w+) import', read(path), re.M)}
+        modules = {f'{os.path.dirname(path)}/{name}.py' for path in paths for name in re.findall(r'^from \.?(\w+) import', read(path), re.M)}
         texts = map(read, {*paths, *(modules & set(self.repository.files))})
         known = {'help'}.union(*(re.findall(r"(?<=')(?:--)?([a-z-]+)(?=')", text.replace('_', '-')) for text in texts))
         for option in re.findall(r'(?<=\s)--([a-z-]+)', rest):

@@ -88,6 +88,10 @@ def works(place):
             yield f'{name} --help: status {status}'
         if call(f'{place}/bin/{name}', '--version') != (0, f'{"" if name == "eel" else f"{name} of "}{version}\n'):
             yield f'{name} --version: {call(f"{place}/bin/{name}", "--version")}, where eel says {version}'
+    told = call(sys.executable, '-c', 'import cProfile; from eeltools.shown import Shown; print(Shown("{}").text())'.format(EXAMPLE),
+                PYTHONPATH=f'{place}/share/eel/tools/python')
+    if told != (0, 'range(65620, 65632, 4)\n'):
+        yield f'eeltools says {told[1]}'
     for name in BESIDE:
         if not os.path.isfile(f'{place}/{name}'):
             yield f'there is no {name}'

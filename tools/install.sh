@@ -16,6 +16,9 @@ placed_files() {
         [ "${file%.md}" = "$file" ] || continue
         echo "$([ -x "$file" ] && echo 755 || echo 644) share/eel/tools/${file##*/} $file"
     done
+    for file in "$here"/tools/python/eeltools/*.py; do
+        echo "644 share/eel/tools/python/eeltools/${file##*/} $file"
+    done
     for command in $commands; do
         command=${command%:*} page=tools/pages/${command%:*}.1
         echo "644 share/eel/$page $here/$page"

@@ -8,13 +8,12 @@ from unittest import mock
 CHECKS = os.path.dirname(os.path.dirname(os.path.abspath(__file__)))
 TOP = os.path.dirname(CHECKS)
 DATA = os.path.join(TOP, 'crates', 'program_runs', 'data')
-sys.path[:0] = [os.path.join(TOP, 'tools'), CHECKS]
+sys.path[:0] = [os.path.join(TOP, 'tools', 'python'), CHECKS]
 
 import disassembler
 import listing
 import plain_count
-import runs
-import shown
+from eeltools import runs, shown
 
 
 def by_models(command, name):
@@ -52,23 +51,22 @@ def program(words, start=0x10054, symbols=()):
     return header + segment + text + end
 
 
-def written(content):
-    """The name of a file with this content, which stays until the tests end."""
-    made = tempfile.NamedTemporaryFile(dir=FOLDER.name, delete=False)
-    with made:
+def written(content, name=None):
+    """The name of a file with this content, another one each time, which stays until the tests end; or this name."""
+    with open(name, 'wb') if name else tempfile.NamedTemporaryFile(dir=FOLDER.name, delete=False) as made:
         made.write(content.encode() if isinstance(content, str) else content)
     return made.name
 
 
-def run_in(own, given=b'', counted='every', limit=10 ** 6):
+def run_in(own, given=b'', counted='every', limit=10 ** 6, name=None):
     """The run of a program: its visits with the ways from word to word, its visits alone, or the counts of its edges; and
-    how many steps it made."""
+    how many steps it made. A file may be named to which they go."""
     counts, _, steps = plain_count.walk(own.file, [], given, limit)
     lines = counts.lines() if counted == 'edges' else counts.visit_lines()
     if counted == 'every':
         with mock.patch('plain_count.Graph', EachWord):
             lines += plain_count.walk(own.file, [], given, limit)[0].lines()
-    return runs.run_of(own, written(lines)), steps
+    return runs.run_of(own, written(lines, name)), steps
 
 
 FOLDER = tempfile.TemporaryDirectory(prefix='eel-units-')

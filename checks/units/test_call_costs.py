@@ -6,9 +6,9 @@ from collections import Counter
 from unittest import mock
 
 import given
-import recursions
-from call_costs import Call, CallCosts, components, share_out
-from recursions import solved
+from eeltools import recursions
+from eeltools.call_costs import Call, CallCosts, components, share_out
+from eeltools.recursions import solved
 
 
 def random_recursion(size, entered, spread=1000):

@@ -3,9 +3,9 @@ import unittest
 from types import SimpleNamespace
 
 import given
-from callgrind import Callgrind
-from instruction_mix import InstructionMix, kind_of
-from source_counts import SourceCounts
+from eeltools.callgrind import Callgrind
+from eeltools.instruction_mix import InstructionMix, kind_of
+from eeltools.source_counts import SourceCounts
 from sparc import JMPL, LD, NOP, O0, O7, OR, SP, ST, SUBCC, SWAP, TICC, UMUL, branch, call, form3, sethi
 
 NEVER, EQUAL, ALWAYS, NOT_EQUAL = 0, 1, 8, 9

@@ -3,8 +3,8 @@ import struct
 import unittest
 
 import given
-from check import Findings, Reach, sort_of
-from shown import Shown
+from eeltools.check import Findings, Reach, sort_of
+from eeltools.shown import Shown
 from sparc import NOP, OR, TICC, call, form3
 
 V9, FLOAT, COPROCESSOR, WRPSR, LDA = 0x81f00000, 0x81a04842, 0x81b00000, 0x81880000, 0xc2800020

@@ -3,10 +3,10 @@ import unittest
 from types import SimpleNamespace
 from unittest import mock
 
-import compare
+from eeltools import compare
 import given
-import runs
-from debug_lines import Line
+from eeltools import runs
+from eeltools.debug_lines import Line
 from sparc import ADD, JMPL, NOP, O7, OR, SUBCC, TICC, branch, call, form3
 
 ALWAYS, NOT_EQUAL = 8, 9

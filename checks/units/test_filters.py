@@ -1,6 +1,4 @@
 """Which rows filters take, by hand, and that nothing of a report is lost."""
-import contextlib
-import io
 import re
 import unittest
 from argparse import ArgumentTypeError
@@ -8,10 +6,11 @@ from fractions import Fraction
 from types import SimpleNamespace
 
 import given
-from debug_lines import Copy, Function, Line
-from filters import Filters, names_of, natural, percentage
-from report import FUNCTIONS, Report
-from shown import Shown
+from eeltools import Refused
+from eeltools.debug_lines import Copy, Function, Line
+from eeltools.filters import Filters, names_of, natural, percentage
+from eeltools.report import FUNCTIONS, Report
+from eeltools.shown import Shown
 from sparc import JMPL, NOP, OR, SP, SUBCC, TICC, branch, call, form3
 
 ALWAYS, NOT_EQUAL, SAVE, RESTORE, I7 = 8, 9, 0x3c, 0x3d, 31
@@ -137,9 +136,9 @@ class Rows(unittest.TestCase):
 
 class Names(unittest.TestCase):
     def refused(self, call, *words):
-        with self.assertRaises(SystemExit) as ended, contextlib.redirect_stderr(io.StringIO()) as told:
+        with self.assertRaises(Refused) as ended:
             call(*words)
-        return ended.exception.code, told.getvalue().partition(': ')[2].strip()
+        return ended.exception.status, str(ended.exception)
 
     def test_that_are_there_are_taken(self):
         own = shown()

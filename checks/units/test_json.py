@@ -8,14 +8,14 @@ import subprocess
 import unittest
 
 import given
-from debug_lines import DebugLines, Function, Line
-from endings import Ending
-from gcov_json import GcovJson
-from profile_json import ProfileJson, object_lines
-from report import Report
+from eeltools.debug_lines import DebugLines, Function, Line
+from eeltools.endings import Ending
+from eeltools.gcov_json import GcovJson
+from eeltools.profile_json import ProfileJson, object_lines
+from eeltools.report import Report
 from schema import Schema, parsed, values_of
-from shown import Shown
-from source_counts import SourceCounts, lcov_lines
+from eeltools.shown import Shown
+from eeltools.source_counts import SourceCounts, lcov_lines
 from test_filters import LINES, SHARED, debug_of, shown
 from test_lines import BY_GCOV, GCC, compiled
 

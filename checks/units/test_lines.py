@@ -10,10 +10,10 @@ import unittest
 from types import SimpleNamespace
 
 import given
-import dwarf
-from debug_lines import DebugLines, Line, Row, below, is_plain
-from line_counts import LineCounts, Passes, most_apart
-from shown import Shown
+from eeltools import Refused, dwarf
+from eeltools.debug_lines import DebugLines, Line, Row, below, is_plain
+from eeltools.line_counts import LineCounts, Passes, most_apart
+from eeltools.shown import Shown
 from sparc import NOP, OR, TICC, branch, form3
 
 ALWAYS = 8
@@ -79,8 +79,8 @@ class Compiled(unittest.TestCase):
             try:
                 with contextlib.redirect_stderr(io.StringIO()):
                     DebugLines(own)
-            except SystemExit as refused:
-                self.assertEqual(refused.code, 65)
+            except Refused as refused:
+                self.assertEqual(refused.status, 65)
                 ended += 1
         self.assertGreater(ended, 20)
 

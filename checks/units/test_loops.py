@@ -2,7 +2,7 @@
 import unittest
 
 import given
-from loops import loops
+from eeltools.loops import loops
 from sparc import JMPL, NOP, O7, SUBCC, TICC, branch, call, form3
 
 NE, ALWAYS = 9, 8

@@ -6,7 +6,7 @@ import unittest
 from unittest import mock
 
 from given import written
-import merge
+from eeltools import Refused, merge
 
 EDGES = 'edge 0 fall 00010054 00010058 1\nedge 2 untaken 00010058 00010068 3\nedges 9 counted 5 executions 4\n'
 MORE = 'edge 1 taken 00010058 00010058 4\nedge 2 untaken 00010058 00010068 5\nedges 9 counted 5 executions 9\n'
@@ -42,6 +42,6 @@ class Merge(unittest.TestCase):
     def test_refuses_what_does_not_fit(self):
         for wrong in (EDGES.replace('edges 9', 'edges 8'), EDGES.replace('fall', 'land'), EDGES.replace('executions 4', 'executions 5'),
                       EDGES.replace('edges', 'edge'), ''):
-            with self.assertRaises(SystemExit) as ended, contextlib.redirect_stderr(io.StringIO()):
+            with self.assertRaises(Refused) as ended:
                 summed(EDGES, wrong)
-            self.assertEqual(ended.exception.code, 65)
+            self.assertEqual(ended.exception.status, 65)

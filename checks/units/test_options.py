@@ -3,9 +3,9 @@ import os
 import unittest
 
 from given import TOP
-from endings import Ending
+from eeltools.endings import Ending
 from options import Help, Page, commands, misnamed
-from profile import status_by
+from eeltools.profile import status_by
 
 TEXT = '''usage: merge.py [-h] [--version] [-n STEPS] [--to {file,pipe} | --all] FILE [COUNTS ...]
 

@@ -2,9 +2,9 @@
 import unittest
 
 import given
-from call_costs import CallCosts
-from endings import stray_jump
-from shown import Shown
+from eeltools.call_costs import CallCosts
+from eeltools.endings import stray_jump
+from eeltools.shown import Shown
 from sparc import JMPL, NOP, TICC, call, form3, sethi
 
 ALWAYS, SAVE, RESTORE, OR = 8, 0x3c, 0x3d, 2

@@ -1,20 +1,18 @@
 """How scripts read, write and refuse files."""
-import contextlib
-import io
 import os
 import unittest
 
 import given
-import scripting
-from endings import said_before_end
-from shown import is_address
+from eeltools import Refused, scripting
+from eeltools.endings import said_before_end
+from eeltools.shown import is_address
 
 
 def refused(call, *words):
     """The status and the line by which a call ends."""
-    with unittest.TestCase().assertRaises(SystemExit) as ended, contextlib.redirect_stderr(io.StringIO()) as told:
+    with unittest.TestCase().assertRaises(Refused) as ended:
         call(*words)
-    return ended.exception.code, told.getvalue().partition(': ')[2].strip()
+    return ended.exception.status, str(ended.exception)
 
 
 class Outputs(unittest.TestCase):

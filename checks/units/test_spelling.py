@@ -2,7 +2,7 @@
 import unittest
 
 import given  # the path to tools/
-from spelling import long_text, spelled
+from eeltools.spelling import long_text, spelled
 
 # As `eel list` has it, and as objdump does.
 PAIRS = [('sethi 0,%g0', 'nop'), ('sethi 66,%g2', 'sethi %hi(0x10800), %g2'), ('or %g0,5,%g2', 'mov 5, %g2'),

@@ -2,9 +2,9 @@
 import hashlib
 import json
 
-from annotate import code_words
-from instruction_mix import InstructionMix
-from loops import loops
+from .annotate import code_words
+from .instruction_mix import InstructionMix
+from .loops import loops
 
 VERSION = 1  # is raised with each change of the schema
 

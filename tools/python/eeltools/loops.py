@@ -2,7 +2,7 @@
 from collections import defaultdict
 from dataclasses import dataclass, field
 
-from shown import is_return
+from .shown import is_return
 
 
 @dataclass

@@ -3,7 +3,6 @@ import array
 import bisect
 import difflib
 import functools
-import gc
 import os
 import re
 import subprocess
@@ -12,12 +11,10 @@ import zlib
 from collections import defaultdict
 from dataclasses import dataclass, field
 
-from scripting import EEL, MEMORY, WORDS, note, read_file, read_lines, refuse, wants_built
+from .dwarf import Elf
+from .scripting import EEL, MEMORY, WORDS, note, read_file, read_lines, refuse, wants_built
+from .spelling import spelled
 
-from dwarf import Elf
-from spelling import spelled
-
-gc.disable()  # what is made of a program stays to the end: to look through it again and again takes half the time
 OTHER_MACHINES = {3: 'Intel 386', 8: 'MIPS', 20: 'PowerPC', 21: 'PowerPC 64', 22: 'S/390', 40: 'ARM', 62: 'x86-64', 183: 'AArch64',
                   243: 'RISC-V'}  # by the numbers in ELF headers
 NAMES_HELP = 'names of routines: lines of `nm`, an address and a name'

@@ -7,7 +7,7 @@ import sys
 from collections import Counter
 from dataclasses import dataclass
 
-from shown import is_call, is_return
+from .shown import is_call, is_return
 
 # What each trap is, and its usual cause.
 TRAPS = {

@@ -1,20 +1,16 @@
-"""What the scripts of tools/ and checks/ share: where things stand, how a script ends, what it reads and prints."""
-import os
-import sys
-
-if sys.version_info < (3, 10):
-    sys.exit('%s: this takes Python 3.10 or newer, and %s is Python %d.%d'
-             % (os.path.basename(sys.argv[0]), sys.executable or 'python3', sys.version_info[0], sys.version_info[1]))
-
+"""What the scripts of tools/ and checks/ share: where things stand, what a script refuses, reads and prints."""
 import argparse
 import contextlib
 import errno
 import functools
-import signal
+import os
 import subprocess
+import sys
 import threading
 
-TOP = os.path.dirname(os.path.dirname(os.path.realpath(__file__)))
+from . import Refused
+
+TOP = os.path.realpath(os.path.join(os.path.dirname(os.path.realpath(__file__)), '..', '..', '..'))
 EEL = os.path.join(TOP, 'eel')
 INSTALLED = os.path.join(TOP, '..', '..', 'libexec', 'eel', 'eel_main')
 BUILT = os.environ.get('EEL_PROGRAM') or (os.path.join(TOP, 'crates', 'eel_main', 'out', 'eel_main')
@@ -39,24 +35,8 @@ def note(line):
 
 
 def refuse(line, status=CONTENTS):
-    """Ends the script with one line on the error stream."""
-    note(line)
-    sys.exit(status)
-
-
-def end_shortly(kind, raised, trace):
-    """An interrupt ends a script without a line, by its signal; want of memory, and a file or a device that failed, by one."""
-    if issubclass(kind, KeyboardInterrupt):
-        signal.signal(signal.SIGINT, signal.SIG_IGN)  # another one changes nothing
-    elif issubclass(kind, MemoryError):
-        refuse('out of memory', MEMORY)
-    elif issubclass(kind, OSError):
-        refuse(f'{raised.filename}: {why(raised)}' if raised.filename else why(raised), DEVICE)
-    else:
-        sys.__excepthook__(kind, raised, trace)
-
-
-sys.excepthook = end_shortly
+    """Says why something can't be done: a script ends so, with this line on the error stream."""
+    raise Refused(line, status)
 
 
 @contextlib.contextmanager
@@ -70,13 +50,6 @@ def said_if_long(what):
         yield
     finally:
         timer.cancel()
-
-
-def script(main):
-    """Calls a script's `main`. A signal to end lets its temporary files go."""
-    for number in signal.SIGTERM, signal.SIGHUP:
-        signal.signal(number, lambda number, _: sys.exit(128 + number))
-    sys.exit(main())
 
 
 class VersionAction(argparse.Action):

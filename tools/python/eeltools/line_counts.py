@@ -2,7 +2,7 @@
 import bisect
 from collections import defaultdict
 
-from shown import NOP
+from .shown import NOP
 
 MOST_TOGETHER = 12  # blocks of a line that are looked at together
 BRANCH_ALWAYS = 0x10800000, 0xdfc00000

@@ -10,10 +10,9 @@ from fnmatch import fnmatchcase
 from fractions import Fraction
 from itertools import chain
 
-from scripting import CONTENTS, WORDS, refuse
-
-from compare import function_of
-from shown import is_save
+from .compare import function_of
+from .scripting import CONTENTS, WORDS, refuse
+from .shown import is_save
 
 PATTERN = '`*` stands for any text in it, `?` for a letter'
 

@@ -1,7 +1,7 @@
 """What kinds of instructions a run carried out, by the words of the text: loads, stores, branches, calls and so on."""
 from collections import Counter
 
-from shown import NOP, is_return
+from .shown import NOP, is_return
 
 LOAD, STORE, BOTH = 'loads', 'stores', 'loads that store (ldstub, swap)'
 CONDITIONAL, TAKEN, UNTAKEN = 'conditional branches', 'conditional branches, taken', 'conditional branches, not taken'

@@ -3,9 +3,8 @@ import functools
 import re
 from collections import Counter, defaultdict
 
-from scripting import read_lines, refuse
-
-from shown import address_in, is_transfer, is_trap, is_unimplemented
+from .scripting import read_lines, refuse
+from .shown import address_in, is_transfer, is_trap, is_unimplemented
 
 RUN_HELP = 'what `eel counts` printed of a run of its profile, or `eel visits` of a file that `every` made, with what ' \
            '`eel counts` prints of the same behind it, perhaps'

@@ -4,8 +4,8 @@ import os
 from collections import Counter, defaultdict
 from dataclasses import dataclass
 
-from call_costs import POINTER
-from instruction_mix import LONG_NAMES, InstructionMix
+from .call_costs import POINTER
+from .instruction_mix import LONG_NAMES, InstructionMix
 
 START, START_NAME = -2, '(start of the program)'  # from which the program's start is called
 UNKNOWN = '???'

@@ -3,8 +3,8 @@ import copy
 from collections import Counter, defaultdict
 from dataclasses import dataclass, replace
 
-from recursions import solved
-from shown import is_call, is_return
+from .recursions import solved
+from .shown import is_call, is_return
 
 POINTER, POINTER_NAME = -1, '(through a pointer)'  # the node from which calls come whose caller isn't known
 

@@ -2,15 +2,14 @@
 import os
 from collections import Counter
 
-from scripting import read_lines
-
-from call_costs import POINTER_NAME
-from filters import Filters, debug_of_routines
-from instruction_mix import InstructionMix
-from line_counts import LineCounts
-from loops import loops
-from shown import figure, known, share
-from source_counts import SourceCounts, reached
+from .call_costs import POINTER_NAME
+from .filters import Filters, debug_of_routines
+from .instruction_mix import InstructionMix
+from .line_counts import LineCounts
+from .loops import loops
+from .scripting import read_lines
+from .shown import figure, known, share
+from .source_counts import SourceCounts, reached
 
 FUNCTIONS, LOOPS, LINES, WIDTH = 20, 5, 10, 60
 

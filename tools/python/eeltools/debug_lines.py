@@ -5,10 +5,9 @@ import re
 from dataclasses import dataclass, field
 from typing import NamedTuple
 
-from scripting import note, read_file, refuse
-
-import dwarf
-from shown import demangled
+from . import dwarf
+from .scripting import note, read_file, refuse
+from .shown import demangled
 
 ROOT_HELP = 'where sources stand: OLD=NEW for those whose path begins with OLD, or a folder below which each stands by its ' \
             'whole path or by the end of it; may be given several times'

@@ -5,9 +5,9 @@ import os
 import re
 from collections import defaultdict
 
-from debug_lines import Line
-from line_counts import has_work
-from source_counts import branch_ways
+from .debug_lines import Line
+from .line_counts import has_work
+from .source_counts import branch_ways
 
 FORMAT = '1'
 

@@ -5,7 +5,7 @@ and each other behind it. What costs less than a 20,000th of all isn't divided f
 """
 from collections import Counter, defaultdict
 
-from call_costs import components
+from .call_costs import components
 
 PARTS = 20000
 
