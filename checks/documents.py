@@ -183,7 +183,7 @@ class Document:
                 self.bad.append((number, span, 'no such name'))
 
     def is_path(self, path):
-        if path.startswith('out/') or re.search('NAME|FOLDER|CRATE|PATH', path):  # made by a build, or a pattern
+        if path.startswith('out/') or re.search('NAME|FOLDER|CRATE|PATH|PREFIX', path):  # made by a build, or a pattern
             return True
         return self.repository.has_path(path, self.name)
 
