@@ -10,19 +10,23 @@ With a trace the last edges of a run are printed, the oldest first, each with th
 its delay slot, and those of its block, of which the last ones may not have been reached. With --routine those that
 lead into this routine, within it and out of it are printed.
 """
+from __future__ import annotations
+
 import os
 import sys
+from argparse import Namespace
 from collections import defaultdict
+from collections.abc import Iterator
 
-from .debug_lines import ROOT_HELP, DebugLines, tell_missing
-from .runs import TRACE_HELP, is_trace, run_of, trace_of
+from .debug_lines import ROOT_HELP, DebugLines, Line, tell_missing
+from .runs import TRACE_HELP, Run, is_trace, run_of, trace_of
 from .scripting import Parser, print_lines, read_lines
-from .shown import NAMES_HELP, Shown, share
+from .shown import NAMES_HELP, Edge, Shown, share
 
 RED, YELLOW, GREY, PLAIN = '\x1b[1;31m', '\x1b[33m', '\x1b[90m', '\x1b[0m'
 
 
-def code_words(shown, run):
+def code_words(shown: Shown, run: Run | None) -> dict[int | None, list[int]]:
     """The addresses of a program's code, by routine, in address order."""
     blocks = [shown.blocks[first] for first in shown.code(run)]
     words = {address for block in blocks for address in block.addresses()}
@@ -34,26 +38,26 @@ def code_words(shown, run):
 
 
 class Annotation:
-    def __init__(self, shown, run, coloured, line_at):
+    def __init__(self, shown: Shown, run: Run | None, coloured: bool, line_at: dict[int, Line]) -> None:
         self.shown, self.run, self.line_at = shown, run, line_at
         self.most = max(run.words.values()) if run else 0
         self.colours = {'hot': RED, 'warm': YELLOW, 'cold': GREY} if coloured else {}
 
-    def heat(self, count):
+    def heat(self, count: int) -> str:
         """How hot an instruction is beside the hottest one."""
         return 'cold' if not count else 'hot' if 2 * count >= self.most else 'warm' if 10 * count >= self.most else ''
 
-    def heading(self, start, words):
+    def heading(self, start: int | None, words: list[int]) -> str:
         if not self.run:
             return f'{self.shown.name_of(start)}:'
         executed = self.executed(words)
         part = share(executed, self.run.total)
         return f'{self.shown.name_of(start)}: {executed} of {self.run.total} instructions, {part}'
 
-    def executed(self, words):
+    def executed(self, words: list[int]) -> int:
         return sum(self.run.words[address] for address in words) if self.run else 0
 
-    def line(self, address):
+    def line(self, address: int) -> str:
         text = f'{address:08x}  {self.shown.text_at(address)}'
         if not self.run:
             return text
@@ -62,7 +66,7 @@ class Annotation:
         colour = self.colours.get(self.heat(count))
         return f'{colour}{line}{PLAIN}' if colour else line
 
-    def lines(self, routines):
+    def lines(self, routines: dict[int | None, list[int]]) -> Iterator[str]:
         """All routines, the hottest first."""
         for start, words in sorted(routines.items(), key=lambda item: -self.executed(item[1])):
             yield self.heading(start, words)
@@ -76,7 +80,7 @@ class Annotation:
             yield ''
 
 
-def source_line(line):
+def source_line(line: Line) -> str:
     """A line of a source, as a comment: patch.py leaves it out."""
     texts = read_lines(line.path)[line.number - 1:line.number] if os.path.isfile(line.path) else []
     return f'# {os.path.basename(line.path)}:{line.number}  {"".join(texts).strip()}'.rstrip()
@@ -85,16 +89,16 @@ def source_line(line):
 class Trail:
     """The last edges of a run, with the instructions to which each led."""
 
-    def __init__(self, shown, numbers, routine):
+    def __init__(self, shown: Shown, numbers: list[int], routine: int | None) -> None:
         self.shown, self.routine = shown, routine
         self.numbers = [number for number in numbers
                         if routine is None or routine in self.routines(shown.edges[number])]
 
-    def routines(self, edge):
+    def routines(self, edge: Edge) -> list[int | None]:
         """The routines from which an edge leads and to which it does."""
         return [self.shown.routine_of(end) for end in (edge.source, edge.target) if end is not None]
 
-    def lines(self):
+    def lines(self) -> Iterator[str]:
         for number in self.numbers:
             edge = self.shown.edges[number]
             yield f'edge {number} {edge.kind}: {self.shown.place(edge.source)} -> {self.shown.place(edge.target)}'
@@ -105,7 +109,7 @@ class Trail:
                     yield f'  {address:08x}  {self.shown.text_at(address)}'
 
 
-def parsed(args=None):
+def parsed(args: list[str] | None = None) -> Namespace:
     parser = Parser(__doc__)
     parser.add_argument('file', metavar='FILE', help='the program')
     parser.add_argument('counts', metavar='COUNTS', nargs='?', help=TRACE_HELP)
@@ -116,7 +120,7 @@ def parsed(args=None):
     return parser.parse_intermixed_args(args)
 
 
-def printed(shown, run, words, debug=None):
+def printed(shown: Shown, run: Run | None, words: Namespace, debug: DebugLines | None = None) -> Iterator[str]:
     """The lines for a run, if any."""
     routines = code_words(shown, run)
     if words.routine:
@@ -131,7 +135,7 @@ def printed(shown, run, words, debug=None):
     return Annotation(shown, run, coloured, line_at).lines(routines)
 
 
-def main():
+def main() -> None:
     words = parsed()
     shown = Shown(words.file, words.names)
     if words.counts is not None and is_trace(words.counts):

@@ -1,11 +1,17 @@
 """The calls between a program's routines in a run, and what they cost, as a profiler tells it."""
+from __future__ import annotations
+
 import copy
 from collections import Counter, defaultdict
+from collections.abc import Hashable, Iterable, Iterator, Sequence
 from dataclasses import dataclass, replace
+from typing import TypeVar
 
 from .recursions import solved
-from .shown import is_call, is_return
+from .runs import Run
+from .shown import Shown, is_call, is_return
 
+Node = TypeVar('Node', bound=Hashable)
 POINTER, POINTER_NAME = -1, '(through a pointer)'  # the node from which calls come whose caller isn't known
 
 
@@ -14,13 +20,13 @@ class Call:
     """An instruction that calls a routine, or goes on to one in the end of another, how often it did, and what that
     cost, with what was called from there."""
     address: int
-    caller: int
-    callee: int
+    caller: int | None
+    callee: int | None
     count: int
     cost: int = 0
 
 
-def after_all_below(nodes, below, seen):
+def after_all_below(nodes: Iterable[Node], below: dict[Node, set[Node]], seen: set[Node]) -> list[Node]:
     """The nodes and all that they lead to but what was seen, each behind those, except for what leads back to it."""
     order = []
     for node in nodes:
@@ -36,7 +42,7 @@ def after_all_below(nodes, below, seen):
     return order
 
 
-def components(nodes, edges):
+def components(nodes: Iterable[Node], edges: Iterable[tuple[Node, Node]]) -> Iterator[list[Node]]:
     """The strongly connected components of a graph, each behind all that lead to it (Kosaraju's algorithm)."""
     below, above = defaultdict(set), defaultdict(set)
     for source, target in edges:
@@ -55,7 +61,7 @@ class CallCosts:
     A call through a register has a caller where one routine alone made such calls, or where one alone was called so.
     Else its caller isn't known: it comes from the node POINTER, and what it costs is that node's and no routine's."""
 
-    def __init__(self, shown, run):
+    def __init__(self, shown: Shown, run: Run) -> None:
         self.shown, self.run = shown, run
         self.own = Counter()
         for block in shown.blocks.values() if run.words else ():
@@ -78,13 +84,13 @@ class CallCosts:
         self.inclusive = {}
         self.share_all()
 
-    def link(self):
+    def link(self) -> None:
         self.below, self.above = defaultdict(list), defaultdict(list)
         for call in self.calls:
             self.below[call.caller].append(call)
             self.above[call.callee].append(call)
 
-    def of(self, own):
+    def of(self, own: Counter[int | None]) -> CallCosts:
         """The same calls in their order, with what they cost where routines have other costs, such as their loads."""
         other = copy.copy(self)
         other.own, other.inclusive, other.calls = own, {}, [replace(call, cost=0) for call in self.calls]
@@ -92,10 +98,10 @@ class CallCosts:
         other.share_all()
         return other
 
-    def name_of(self, start):
+    def name_of(self, start: int | None) -> str:
         return POINTER_NAME if start == POINTER else self.shown.name_of(start)
 
-    def find(self):
+    def find(self) -> Counter[tuple[int, int | None, int]]:
         """How often each instruction calls each routine: by a CALL, or from another routine by a branch, a switch or in
         order."""
         found = Counter()
@@ -110,7 +116,7 @@ class CallCosts:
                 found[source, self.shown.routine_of(source), start] += count
         return found
 
-    def through_registers(self):
+    def through_registers(self) -> tuple[Counter[int], Counter[int], dict[int | None, int]]:
         """How often each routine was called through a register; how often each instruction made such calls, by a JMPL
         that links, or by one that leaves its routine for another; and how often control came into the midst of a routine
         from elsewhere, where several may be merged."""
@@ -136,7 +142,7 @@ class CallCosts:
                   if count > jumps[routine].total()}
         return +landed, sites, within
 
-    def matched(self, within):
+    def matched(self, within: dict[int | None, int]) -> list[Call]:
         """The calls through registers, and those of the node POINTER where it isn't known who made which."""
         targets = self.landed + Counter(within)
         callers = {self.shown.routine_of(site) for site in self.sites}
@@ -146,7 +152,7 @@ class CallCosts:
             return self.dealt(list(self.sites.items()), list(targets.items()))
         return [Call(POINTER, POINTER, target, count) for target, count in targets.items()]
 
-    def dealt(self, sites, targets):
+    def dealt(self, sites: list[tuple[int, int]], targets: list[tuple[int | None, int]]) -> list[Call]:
         """Calls of one routine, or to one: each of its instructions has as many as it made, in their order."""
         calls, (site, left) = [], sites.pop(0)
         for target, wanted in targets:
@@ -159,13 +165,13 @@ class CallCosts:
                     site, left = sites.pop(0)
         return calls
 
-    def find_more_roots(self):
+    def find_more_roots(self) -> None:
         """What nobody called, as far as is known, counts as called from outside, so that no instruction is lost."""
         while lost := {start for start in self.own if self.own[start]} - self.reached():
             called = {call.callee for start in lost for call in self.below[start] if call.caller != call.callee}
             self.roots.update(lost - called or {min(lost, key=lambda start: start or 0)})
 
-    def reached(self):
+    def reached(self) -> set[int | None]:
         found, waiting = set(), list(self.roots)
         while waiting:
             start = waiting.pop()
@@ -174,19 +180,19 @@ class CallCosts:
                 waiting.extend(call.callee for call in self.below[start])
         return found
 
-    def calls_of(self, start):
+    def calls_of(self, start: int | None) -> int | None:
         """How often a routine was entered, or None where that isn't known."""
         return None if start in self.shown.inner and self.run.entries(start) is None else self.entered[start]
 
-    def through_pointers(self):
+    def through_pointers(self) -> int:
         """What was called by calls whose callers aren't known, or 0."""
         return self.inclusive.get(POINTER, 0)
 
-    def rest_of(self, start):
+    def rest_of(self, start: int | None) -> int:
         """What a routine cost beyond what its callers were told."""
         return max(0, self.inclusive.get(start, 0) - sum(call.cost for call in self.above[start]))
 
-    def share_all(self):
+    def share_all(self) -> None:
         """Gives each call its cost and each routine its inclusive cost, those called first."""
         nodes = sorted({*self.own, *self.below, *self.above, *self.roots}, key=lambda node: node or 0)
         pairs = [(call.caller, call.callee) for call in self.calls]
@@ -202,7 +208,8 @@ class CallCosts:
                 self.inclusive[members[0]] = costs[members[0]]
                 share_out(costs[members[0]], outer, [call.count for call in outer], self.roots[members[0]])
 
-    def share_recursion(self, members, costs, inner, outer):
+    def share_recursion(self, members: list[int | None], costs: dict[int | None, int], inner: list[Call],
+                        outer: list[Call]) -> None:
         """In a recursion, too, each call of a routine counts as much as any other. What a routine costs with what it calls
         is that of its outermost calls: those within them are parts of it."""
         called = Counter(self.roots)
@@ -226,7 +233,7 @@ class CallCosts:
             share_out(max(0, self.inclusive[member] - round(known)), own, [call.count for call in own], 0)
 
 
-def share_out(cost, calls, weights, elsewhere):
+def share_out(cost: int, calls: list[Call], weights: Sequence[float], elsewhere: float) -> None:
     """Shares a cost out among calls by their weights, and what is called from elsewhere by that weight."""
     whole, before, given = sum(weights) + elsewhere, 0, 0
     for call, weight in zip(calls, weights):

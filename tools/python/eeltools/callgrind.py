@@ -1,18 +1,26 @@
 """A profile as `callgrind` of valgrind writes it: what ran in each function, by events, its calls and its jumps."""
+from __future__ import annotations
+
 import functools
 import os
 from collections import Counter, defaultdict
-from dataclasses import dataclass
+from collections.abc import Iterable, Iterator, Sequence
+from dataclasses import dataclass, field
+from typing import TYPE_CHECKING
 
 from .call_costs import POINTER
+from .debug_lines import Copy, Line
 from .instruction_mix import LONG_NAMES, InstructionMix
+
+if TYPE_CHECKING:
+    from .source_counts import SourceCounts
 
 START, START_NAME = -2, '(start of the program)'  # from which the program's start is called
 UNKNOWN = '???'
 
 
 @functools.cache
-def path_of(line):
+def path_of(line: Line | None) -> str:
     """The file of a line, from the current folder: callgrind_annotate takes one with a whole path for two."""
     return os.path.relpath(line.path) if line else UNKNOWN
 
@@ -21,17 +29,17 @@ def path_of(line):
 class Body:
     """A function, or with --inlined a copy of one, which is entered where it stands so many times, with its words."""
     name: str
-    line: object
-    copy: object = None
-    words: list = None
+    line: Line | None
+    copy: Copy | None = None
+    words: list[int] = field(default_factory=list)
     count: int = 0
 
 
-def sums(rows):
+def sums(rows: Iterable[Sequence[int]]) -> list[int]:
     return [sum(column) for column in zip(*rows)]
 
 
-def numbers(costs):
+def numbers(costs: list[int]) -> str:
     """The numbers of a line: zeros at the end are left out."""
     while costs and not costs[-1]:
         costs = costs[:-1]
@@ -42,7 +50,7 @@ class Callgrind:
     """The lines of the file. Inlined code counts for its own lines, in whatever file these are, and for the function that
     it is part of; or, where copies are wanted, for the function that was inlined, which then is called from there."""
 
-    def __init__(self, counts, with_copies):
+    def __init__(self, counts: SourceCounts, with_copies: bool) -> None:
         self.counts, self.shown, self.debug, self.costs = counts, counts.shown, counts.debug, counts.costs
         self.mix = InstructionMix(counts.shown, counts.run)
         self.own = {address: self.mix.costs(address) for address in self.mix.kinds}
@@ -54,7 +62,7 @@ class Callgrind:
             self.find_copies()
         self.share()
 
-    def find_copies(self):
+    def find_copies(self) -> None:
         """Outer copies come first, so that each word is the innermost one's. One in its own function is part of that."""
         found = [(copy, function) for function in self.debug.functions.values() for copy in function.copies]
         for copy, function in sorted(found, key=lambda pair: pair[0].offset):
@@ -68,7 +76,7 @@ class Callgrind:
                 self.bodies.update(dict.fromkeys(addresses, body))
                 self.copies[outer].append(body)
 
-    def share(self):
+    def share(self) -> None:
         """The calls of each instruction with their costs, and those of the start, by each event."""
         own = [Counter() for _ in self.mix.events]
         for address, costs in self.own.items():
@@ -80,20 +88,20 @@ class Callgrind:
         self.roots = [(start, count, [costs.rest_of(start) for costs in each]) for start, count in self.costs.roots.items()
                       if self.costs.above[start] or self.has_parts(start)]
 
-    def has_parts(self, start):
+    def has_parts(self, start: int | None) -> bool:
         """Whether a routine has lines of several files, which callgrind_annotate takes for several functions."""
         own = self.routines.get(start)
         return own and any(self.path_at(address, own) != path_of(own.line)
                            for address, body in self.bodies.items() if body is own)
 
-    def path_at(self, address, body):
+    def path_at(self, address: int, body: Body) -> str:
         line = self.debug.line_at.get(address)
         return path_of(line) if line else path_of(body.line)
 
-    def position(self, address, line):
+    def position(self, address: int, line: Line | None) -> str:
         return f'0x{max(address, 0):08x} {line.number if line else 0}'
 
-    def calls_at(self, address, line):
+    def calls_at(self, address: int, line: Line | None) -> Iterator[str]:
         """The calls of an instruction, each with what it cost."""
         for call, costs in self.calls[address]:
             yield f'cfi={path_of(self.counts.line_of(call.callee))}'
@@ -101,7 +109,7 @@ class Callgrind:
             yield f'calls={call.count} {self.position(call.callee, self.debug.line_at.get(call.callee))}'
             yield self.position(address, line) + numbers(costs)
 
-    def jumps_at(self, address, line):
+    def jumps_at(self, address: int, line: Line | None) -> Iterator[str]:
         """The branch of a block, or its jump through a known table: how often it went where. What leads to another
         routine's begin is a call."""
         block = self.shown.block_of(address)
@@ -124,7 +132,7 @@ class Callgrind:
                 yield f'{counts} {self.position(target, target_line)}'
                 yield self.position(address, line)
 
-    def entries_of(self, body):
+    def entries_of(self, body: Body) -> Iterator[str]:
         """The calls of a copy in the function in which it stands: by what it cost, and in which line."""
         costs = sums([self.own[address] for address in body.words]
                      + [costs for address in body.words for _, costs in self.calls[address]])
@@ -133,13 +141,13 @@ class Callgrind:
         yield f'calls={body.count} {self.position(body.copy.entry, self.debug.line_at.get(body.copy.entry))}'
         yield self.position(body.copy.entry, body.copy.called) + numbers(costs)
 
-    def instruction(self, address):
+    def instruction(self, address: int) -> Iterator[str]:
         line = self.debug.line_at.get(address)
         yield self.position(address, line) + numbers(self.own[address])
         yield from self.calls_at(address, line)
         yield from self.jumps_at(address, line)
 
-    def body(self, body, addresses):
+    def body(self, body: Body, addresses: list[int]) -> Iterator[str]:
         """A function's instructions, which may have lines of several files, and its calls of copies."""
         own = path = path_of(body.line)
         yield from (f'fl={own}', f'fn={body.name}')
@@ -152,7 +160,7 @@ class Callgrind:
             yield from lines
         yield ''
 
-    def start(self):
+    def start(self) -> Iterator[str]:
         """What calls the routines that no routine calls."""
         yield from (f'fl={UNKNOWN}', f'fn={START_NAME}')
         for start, count, costs in self.roots:
@@ -160,7 +168,7 @@ class Callgrind:
                         f'calls={count} {self.position(start, self.debug.line_at.get(start))}', f'0x00000000 0{numbers(costs)}')
         yield ''
 
-    def lines(self):
+    def lines(self) -> Iterator[str]:
         totals = numbers(sums(self.own.values()))
         yield from ('# callgrind format', 'version: 1', 'creator: source_counts.py', f'cmd: {self.shown.name}',
                     'positions: instr line', *(f'event: {event} : {LONG_NAMES[event]}' for event in self.mix.events),

@@ -7,9 +7,12 @@ those to which only jumps through registers may lead are told apart.
 The status is 0 where nothing stands in the way, 1 where the file can't be edited or run, and 2 where something may stop
 its run; else 64 for wrong words, 65 for bad NAMES, 66 for a file that is missing.
 """
+from __future__ import annotations
+
 import os
 import tempfile
 from collections import defaultdict
+from collections.abc import Iterable, Iterator
 
 from .scripting import CONTENTS, Parser, print_lines, read_file, refuse, said_if_long
 from .shown import NAMES_HELP, Shown, call_eel, explained, is_trap, status_of
@@ -30,7 +33,7 @@ PRIVILEGED_LOADS = {0x10: 'lda', 0x11: 'lduba', 0x12: 'lduha', 0x13: 'ldda', 0x1
 TRAP_OF = {'float': 4, 'coprocessor': 36, 'privileged': 3}  # else 2
 
 
-def sort_of(word):
+def sort_of(word: int) -> str | None:
     """Why no run gets past a word that is no instruction here; UNIMP is meant to stop a run."""
     op, op2, op3 = word >> 30, word >> 22 & 7, word >> 19 & 63
     if privileged_name(word):
@@ -46,7 +49,7 @@ def sort_of(word):
     return 'unknown'
 
 
-def privileged_name(word):
+def privileged_name(word: int) -> str | None:
     """The name of an instruction that only a kernel may carry out, or None."""
     return {2: PRIVILEGED, 3: PRIVILEGED_LOADS}.get(word >> 30, {}).get(word >> 19 & 63)
 
@@ -55,7 +58,7 @@ class Reach:
     """The words to which control leads from the entry, and those of the other code. None leads on behind a system call
     that is known to be `exit`; and where there are sections, words in those of code alone are looked at."""
 
-    def __init__(self, shown):
+    def __init__(self, shown: Shown) -> None:
         self.shown, self.sections = shown, shown.elf.code()
         self.exits = {address for address in shown.text()
                       if shown.word(address) == SYSTEM_CALL and self.value(address, G1) == EXIT}
@@ -63,14 +66,14 @@ class Reach:
         self.maybe = self.words(shown.code()) - self.sure
         self.maybe -= {address for end in self.exits & self.sure for address in self.data_behind(end)}
 
-    def data_behind(self, end):
+    def data_behind(self, end: int) -> Iterator[int]:
         """What stands behind a known exit, up to the next routine or what is reached, is taken for data."""
         address = end + 4
         while self.shown.block_of(address) and address not in self.sure and address not in self.shown.routines:
             yield address
             address += 4
 
-    def reached(self, waiting):
+    def reached(self, waiting: list[int]) -> set[int]:
         found = set()
         while waiting:
             block = self.shown.block_of(waiting.pop())
@@ -79,7 +82,7 @@ class Reach:
                 waiting.extend(() if self.exits.intersection(block.addresses()) else self.shown.leads_to(block))
         return found
 
-    def words(self, firsts):
+    def words(self, firsts: Iterable[int]) -> set[int]:
         found = set()
         for block in (self.shown.blocks[first] for first in firsts):
             exits = sorted(self.exits.intersection(block.addresses()))
@@ -89,14 +92,14 @@ class Reach:
                 found.add(slot)
         return {word for word in found if not self.sections or any(word in section for section in self.sections)}
 
-    def function(self, address):
+    def function(self, address: int) -> str:
         return self.shown.name_of(self.shown.routine_of(address))
 
-    def is_odd(self, address):
+    def is_odd(self, address: int) -> bool:
         """Whether a word is listed as a number, or is a V9 one that has bits set that V8 ignores; or is privileged."""
         return self.shown.long_text_at(address).startswith('.word') or bool(privileged_name(self.shown.word(address) or 0))
 
-    def value(self, address, register):
+    def value(self, address: int, register: int) -> int | list[int] | None:
         """What stands in a register: a number, the register of the routine's argument in a list, or None."""
         for before in range(address - 4, (self.shown.routine_of(address) or address) - 4, -4):
             word = self.shown.word(before)
@@ -108,7 +111,7 @@ class Reach:
                 register = word & 31
         return [register]
 
-    def system_calls(self, address):
+    def system_calls(self, address: int) -> list[tuple[int | None, str]]:
         """The numbers that a system call may have in %g1, with their functions: by the words before it, or where it has
         its function's argument, by those before that is called."""
         value = self.value(address, G1)
@@ -122,20 +125,20 @@ class Reach:
         return [(None if isinstance(number, list) else number, function) for number, function in numbers]
 
 
-def writes(word, register):
+def writes(word: int, register: int) -> bool:
     """Whether an instruction writes a register."""
     op, op2, op3 = word >> 30, word >> 22 & 7, word >> 19 & 63
     keeps = {0: op2 != 4, 1: True, 2: op3 in (0x30, 0x3a, 0x3b), 3: op3 in (4, 5, 6, 7)}[op]  # stores, and the like
     return not keeps and word >> 25 & 31 == register
 
 
-def where(functions):
+def where(functions: set[str]) -> str:
     """Some functions, by name."""
     names = sorted(functions)
     return ', '.join(names[:4]) + (f' and {len(names) - 4} more' if len(names) > 4 else '')
 
 
-def stops(reach, words):
+def stops(reach: Reach, words: set[int]) -> dict[str, list[int]]:
     """What no run gets past, by sorts, with the functions where they are."""
     found = defaultdict(list)
     for address in sorted(words):
@@ -145,7 +148,7 @@ def stops(reach, words):
     return found
 
 
-def traps(reach, words):
+def traps(reach: Reach, words: set[int]) -> tuple[dict[int | None, set[str]], dict[str, set[str]]]:
     """The system calls by number, and the other traps, each with its functions."""
     calls, others = defaultdict(set), defaultdict(set)
     for address in sorted(words):
@@ -162,10 +165,10 @@ def traps(reach, words):
 class Findings:
     """Lines of what was found, and whether something may stop a run."""
 
-    def __init__(self, reach):
+    def __init__(self, reach: Reach) -> None:
         self.reach, self.stops_runs = reach, False
 
-    def stop_lines(self):
+    def stop_lines(self) -> Iterator[str]:
         for words, how in ((self.reach.sure, ''), (self.reach.maybe, ', where only jumps through registers may lead')):
             for sort, addresses in sorted(stops(self.reach, words).items()):
                 self.stops_runs = True
@@ -175,7 +178,7 @@ class Findings:
                 first = f'{addresses[0]:08x}{f" ({name})" if name else ""}'
                 yield f'{count}, the first at {first}, in {functions}{how}: a run ends there by trap {trap}'
 
-    def call_lines(self):
+    def call_lines(self) -> Iterator[str]:
         calls, others = traps(self.reach, self.reach.sure | self.reach.maybe)
         known = [f'{CALLS[number]} (in {where(calls[number])})' for number in CALLS if number in calls]
         yield f'system calls: {", ".join(known) or "none of those that are known"}'
@@ -188,13 +191,13 @@ class Findings:
             trap = f'ends by trap {128 + int(number) % 128}' if number.isdecimal() else 'traps'
             yield f'{text}, at which a run {trap}, in {where(functions)}'
 
-    def lines(self):
+    def lines(self) -> Iterator[str]:
         stopping, calls = list(self.stop_lines()), list(self.call_lines())
         yield 'can be run: ' + ('not past what is listed here' if self.stops_runs else 'yes')
         yield from (f'  {line}' for line in stopping + calls)
 
 
-def refused(name):
+def refused(name: str) -> str | None:
     """Why a file can't be edited, or None: a profile of it is made. Where that can't be told the script ends."""
     with tempfile.TemporaryDirectory(prefix='eel-check-') as folder:
         made = call_eel('edit', name, os.path.join(folder, 'written'), 'profile')
@@ -204,7 +207,7 @@ def refused(name):
     return told if made.returncode else None
 
 
-def main():
+def main() -> int:
     parser = Parser(__doc__)
     parser.add_argument('file', metavar='FILE', help='the program')
     parser.add_argument('--names', metavar='NAMES', help=NAMES_HELP)

@@ -9,18 +9,23 @@ Functions are told apart by their names; a compiler's parts and copies of one, s
 are two files, as by --source-root and --new-source-root, by what `diff` finds in common. Instructions are paired by
 their addresses in one program, and in two by what their functions have in common.
 """
+from __future__ import annotations
+
 import os
 import re
+from argparse import Namespace
 from collections import Counter
+from collections.abc import Iterable, Iterator, Mapping
 from difflib import SequenceMatcher
 
 from .annotate import code_words
-from .debug_lines import ROOT_HELP, DebugLines
+from .debug_lines import ROOT_HELP, DebugLines, Line
 from .runs import RUN_HELP, run_of
 from .scripting import WORDS, Parser, print_lines, read_lines, refuse
 from .shown import NAMES_HELP, Shown
 from .source_counts import SourceCounts
 
+Row = tuple[int, int, int | None, int | None, str]  # counts before and after, other numbers before and after, and a text
 FUNCTIONS = 10
 PARTS = r'\.(?:isra|constprop|part|cold|lto_priv|localalias|llvm)(?:\.\d+)*'
 COPY = re.compile(rf'(?:{PARTS})+$|(?: \[clone {PARTS}\])+$')
@@ -28,7 +33,7 @@ PART = re.compile(r'\.(?:part|cold)\b')
 ADDRESS = re.compile(r'(?<=%hi\()0x\w+|(?<= )0x\w{8}$')
 
 
-def function_of(name):
+def function_of(name: str) -> str:
     """The function of which a routine is a part or a copy by the compiler, by its name."""
     return COPY.sub('', name)
 
@@ -36,7 +41,7 @@ def function_of(name):
 class Side:
     """One of the two profiles."""
 
-    def __init__(self, name, counts, names, root, inlined):
+    def __init__(self, name: str, counts: str, names: str | None, root: list[str] | None, inlined: bool) -> None:
         self.shown = Shown(name, names)
         self.run = run_of(self.shown, counts)
         self.counts = SourceCounts(self.shown, self.run, DebugLines(self.shown, root))
@@ -47,27 +52,27 @@ class Side:
         if inlined:
             self.name_copies()
 
-    def name_copies(self):
+    def name_copies(self) -> None:
         """Each word counts for the innermost function that was inlined there."""
         copies = [(copy, function_of(function.name)) for function in self.counts.debug.functions.values()
                   for copy in function.copies]
         for copy, name in sorted(copies, key=lambda pair: pair[0].offset):
             self.words.update(dict.fromkeys(copy.words & self.words.keys(), name))
 
-    def functions(self):
+    def functions(self) -> tuple[Counter[str], Mapping[str, int | None]]:
         """How many instructions each function took, and how often it was called."""
         taken = Counter()
         for address, name in self.words.items():
             taken[name] += self.run.words[address]
         return taken, self.calls_with_copies() if self.inlined else self.calls()
 
-    def calls_with_copies(self):
+    def calls_with_copies(self) -> Counter[str]:
         calls = Counter()
         for function in self.counts.functions:
             calls[function_of(function.name)] += function.calls
         return calls
 
-    def calls(self):
+    def calls(self) -> Mapping[str, int | None]:
         """A function's calls of its own parts aren't counted. Where those of a routine aren't known, its function's are None."""
         calls, costs = Counter(), self.counts.costs
         counts = {start: costs.calls_of(start) for start in costs.entered.keys() & self.names.keys()}
@@ -78,29 +83,29 @@ class Side:
                 calls[self.names[call.callee]] -= call.count
         return calls | {self.names[start]: None for start, count in counts.items() if count is None}
 
-    def lines(self):
+    def lines(self) -> tuple[Counter[Line], Counter[Line]]:
         """How many instructions each line took, and how often it was reached."""
         taken, times = Counter(), Counter(self.counts.lines)
         for address, line in self.counts.debug.line_at.items():
             taken[line] += self.run.words.get(address, 0)
         return taken, times
 
-    def instructions(self, function):
+    def instructions(self, function: str) -> list[int]:
         """The addresses of a function's words, in their order."""
         return sorted(address for address, name in self.words.items() if name == function)
 
 
-def signed(number):
+def signed(number: int) -> str:
     return f'{number:+d}' if number else '0'
 
 
-def row(before, after, more, text):
+def row(before: int | None, after: int | None, more: str, text: str) -> str:
     """A line of a table: `-` stands for what isn't there."""
     shown = ['-' if count is None else str(count) for count in (before, after)]
     return f'{shown[0]:>14} {shown[1]:>14} {signed((after or 0) - (before or 0)):>14} {more:>12}  {text}'
 
 
-def table(heading, rows, told):
+def table(heading: tuple[str, str], rows: Iterable[Row], told: Iterable[str]) -> Iterator[str]:
     """Rows of counts before and after, of another number before and after, and of a text; the greatest differences first."""
     rows = [found for found in rows if found[0] != found[1] or found[2] != found[3]]
     yield f'{"before":>14} {"after":>14} {"difference":>14} {heading[0]:>12}  {heading[1]}'
@@ -109,23 +114,23 @@ def table(heading, rows, told):
         yield row(before, after, '?' if None in (old, new) else signed(new - old), text)
 
 
-def total(before, after):
+def total(before: Side, after: Side) -> Iterator[str]:
     """The line for all instructions."""
     old, new = before.run.total, after.run.total
     yield row(old, new, '', f'all{f", {100 * (new - old) / old:+.1f} %" if old else ""}')
 
 
-def function_lines(before, after):
+def function_lines(before: Side, after: Side) -> Iterator[str]:
     (taken, calls), (new_taken, new_calls) = before.functions(), after.functions()
     rows = [(taken[name], new_taken[name], calls.get(name, 0), new_calls.get(name, 0), name) for name in {*taken, *new_taken}]
     return table(('calls', 'function'), rows, total(before, after))
 
 
-def texts_of(path):
+def texts_of(path: str) -> list[str]:
     return read_lines(path) if os.path.isfile(path) else []
 
 
-def paired_sources(old, new):
+def paired_sources(old: set[str], new: set[str]) -> dict[str, str]:
     """Paths of the same source: the same, or the only ones of their name."""
     pairs = {path: path for path in old & new}
     rest, names = {}, Counter(os.path.basename(path) for path in [*(old - new), *(new - old)])
@@ -136,7 +141,7 @@ def paired_sources(old, new):
     return pairs
 
 
-def paired_numbers(old, new):
+def paired_numbers(old: list[str], new: list[str]) -> dict[int, int]:
     """The new numbers of lines by the old ones, where two sources are alike, or differ in as many lines."""
     pairs = {}
     for _, low, high, new_low, new_high in SequenceMatcher(None, old, new, autojunk=False).get_opcodes():
@@ -145,7 +150,7 @@ def paired_numbers(old, new):
     return pairs
 
 
-def paired_lines(old, new):
+def paired_lines(old: set[Line], new: set[Line]) -> Iterator[tuple[Line, Line]]:
     """The new line of each old one that has one."""
     pairs, numbers = paired_sources({line.path for line in old}, {line.path for line in new}), {}
     for path, other in pairs.items():
@@ -157,7 +162,7 @@ def paired_lines(old, new):
             yield line, line._replace(path=pairs[line.path], number=number)
 
 
-def line_lines(before, after):
+def line_lines(before: Side, after: Side) -> Iterator[str]:
     (taken, times), (new_taken, new_times) = before.lines(), after.lines()
     old, new = {*taken, *times}, {*new_taken, *new_times}
     if not old or not new:
@@ -170,7 +175,7 @@ def line_lines(before, after):
     return table(('times', 'line'), rows, total(before, after))
 
 
-def place(line, new):
+def place(line: Line | None, new: Line | None) -> str:
     """A line with its text; where it has another number now, or is in one program alone, that is said."""
     shown = new or line
     text = ''.join(texts_of(shown.path)[shown.number - 1:shown.number]).strip()
@@ -179,7 +184,7 @@ def place(line, new):
     return f'{os.path.basename(shown.path)}:{shown.number}{moved}{alone}  {text}'.rstrip()
 
 
-def aligned(before, after, function):
+def aligned(before: Side, after: Side, function: str) -> list[tuple[int | None, int | None]]:
     """The addresses of a function's instructions, paired; None stands for what one program alone has."""
     old, new = before.instructions(function), after.instructions(function)
     if before.shown.file == after.shown.file:
@@ -194,7 +199,7 @@ def aligned(before, after, function):
     return pairs
 
 
-def instruction_lines(before, after, asked):
+def instruction_lines(before: Side, after: Side, asked: str | None) -> Iterator[str]:
     """The instructions whose counts differ, of one function or of those that differ most."""
     (taken, _), (new_taken, _) = before.functions(), after.functions()
     names = {*taken, *new_taken}
@@ -214,7 +219,7 @@ def instruction_lines(before, after, asked):
         yield ''
 
 
-def parsed():
+def parsed() -> Namespace:
     parser = Parser(__doc__, '%(prog)s [OPTION..] FILE COUNTS [NEW] COUNTS')
     parser.add_argument('file', metavar='FILE', help='the program')
     parser.add_argument('counts', metavar='COUNTS', help=RUN_HELP)
@@ -237,7 +242,7 @@ def parsed():
     return words
 
 
-def main():
+def main() -> None:
     words = parsed()
     before = Side(words.file, words.counts, words.names, words.source_root, words.inlined)
     names, root = (words.new_names, words.new_source_root) if words.new else (words.names, words.source_root)

@@ -1,13 +1,17 @@
 """The lines and functions of a program by its debug information, which may stand in files beside it."""
+from __future__ import annotations
+
 import functools
 import os
 import re
+from collections.abc import Iterable
 from dataclasses import dataclass, field
 from typing import NamedTuple
 
 from . import dwarf
+from .dwarf import Dwarf, Entry, Unit
 from .scripting import note, read_file, refuse
-from .shown import demangled
+from .shown import Shown, demangled
 
 ROOT_HELP = 'where sources stand: OLD=NEW for those whose path begins with OLD, or a folder below which each stands by its ' \
             'whole path or by the end of it; may be given several times'
@@ -36,7 +40,7 @@ class Copy:
     """A copy of a function by inlining: where it is entered, if that is said and else its lowest address; its words; the
     line of the call in whose place it stands, if that is said; and its offset, which is behind those of outer copies."""
     entry: int
-    words: set
+    words: set[int]
     is_said: bool
     called: Line | None = None
     offset: int = 0
@@ -50,25 +54,25 @@ class Function:
     line: Line
     symbol: str
     column: int = 0
-    starts: list = field(default_factory=list)
+    starts: list[int] = field(default_factory=list)
     copies: list = field(default_factory=list)
     bodies: set = field(default_factory=set)
 
 
-def marks_statements(rows):
+def marks_statements(rows: list[Row]) -> bool:
     """Whether rows mark where statements begin, also where no word of them stands, as in gcc's optimised code. clang's
     don't: it marks a row where its line is another than that of the row before, and so no test of a loop."""
     empty = any(row.marks and row.address == row.end for row in rows[:-1])
     return empty and not all(row.marks for row in rows)
 
 
-def is_plain(producer):
+def is_plain(producer: str) -> bool:
     """Whether a producer tells its options, and among them no level above -O0."""
     levels = re.findall(r' -O(\w*)', producer)
     return ' -' in producer and levels[-1:] in ([], ['0'])
 
 
-def below(path, roots):
+def below(path: str, roots: list[str] | None) -> str:
     """Where a source stands, by what is said of that: its path with another beginning, or below a folder."""
     for root in roots or ():
         old, equals, new = root.partition('=')
@@ -84,13 +88,13 @@ def below(path, roots):
     return os.path.join(folders[0], path.lstrip('/')) if folders else path
 
 
-def tell_missing(paths):
+def tell_missing(paths: Iterable[str]) -> None:
     """Says which sources aren't there."""
     for number, path in enumerate(path for path in paths if not os.path.isfile(path)):
         note(f'{path} is not there, so that its lines have no text{"" if number else "; --source-root says where it is"}')
 
 
-def described(entry):
+def described(entry: Entry) -> Entry:
     """The entry that has a function's name: its own, or the one to which it refers, of another unit perhaps."""
     for attribute in (dwarf.ABSTRACT_ORIGIN, dwarf.SPECIFICATION):
         if attribute in entry and dwarf.NAME not in entry:
@@ -98,7 +102,7 @@ def described(entry):
     return entry
 
 
-def copy_of(entry, lowest, words):
+def copy_of(entry: Entry, lowest: int, words: set[int]) -> Copy:
     """An inlined copy; where it is entered is an address, or how far behind its lowest address that is."""
     if dwarf.ENTRY_PC not in entry:
         return Copy(lowest, words, False)
@@ -110,7 +114,7 @@ def copy_of(entry, lowest, words):
 class DebugLines:
     """All lines and functions of a program that have code. It may be said where sources stand."""
 
-    def __init__(self, shown, roots=None):
+    def __init__(self, shown: Shown, roots: list[str] | None = None) -> None:
         self.place_of = functools.cache(lambda path: below(path, roots))
         self.shown, self.marks, self.line_at, self.body_at, self.functions = shown, [], {}, {}, {}
         self.is_optimised, self.missing, self.producers = False, [], []
@@ -122,15 +126,15 @@ class DebugLines:
         if self.missing:
             note(f'{self.missing[0]} is missing: functions are those of symbols, and inlined copies are not told apart')
 
-    def path(self, unit, number):
+    def path(self, unit: Unit, number: int) -> str:
         """The path of a source, by its number in a unit."""
         return self.place_of(unit.path(number))
 
-    def words(self, low, high):
+    def words(self, low: int, high: int) -> range:
         """The addresses of the text's words in a range."""
         return range(max(low, self.start) & -4, min(high, self.end), 4)
 
-    def read(self, debug):
+    def read(self, debug: Dwarf) -> None:
         for unit in debug.units():
             parts = list(self.parts(unit))
             is_unoptimised = any(is_plain(part.attribute(dwarf.PRODUCER, '')) for part in parts)
@@ -142,7 +146,7 @@ class DebugLines:
         for function, name in zip(self.functions.values(), names):
             function.name = name
 
-    def parts(self, unit):
+    def parts(self, unit: Unit) -> list[Unit]:
         """The unit itself, or those of the .dwo file that it names, beside the objects or beside the program."""
         name = unit.top.get(dwarf.DWO_NAME) or unit.top.get(dwarf.GNU_DWO_NAME)
         if not name:
@@ -154,7 +158,7 @@ class DebugLines:
         self.missing.append(name)
         return []
 
-    def add_rows(self, unit, rows, end, is_unoptimised):
+    def add_rows(self, unit: Unit, rows: list[Row], end: int, is_unoptimised: bool) -> None:
         """Each word has the last row at or before its address; line 0 says that there is none. Where nothing was optimised
         no statement went elsewhere, and marks tell of lines without words alone."""
         paths = {number: self.path(unit, number) for number in {row.file for row in rows}}
@@ -172,7 +176,7 @@ class DebugLines:
             if row.line.number:
                 self.line_at.update((address, row.line) for address in self.words(row.address, row.end))
 
-    def add_bodies(self, unit):
+    def add_bodies(self, unit: Unit) -> None:
         """Inner bodies come after those in which they lie, and take their words; what the linker left out has none."""
         producer = unit.attribute(dwarf.PRODUCER, '')
         self.producers.append(producer)
@@ -186,14 +190,14 @@ class DebugLines:
                 self.body_at.update(dict.fromkeys(words, (id(unit), entry.offset)))
                 self.add_function(unit, entry, ranges, words)
 
-    def line_of(self, entry, file, number):
+    def line_of(self, entry: Entry, file: int, number: int) -> Line | None:
         """A place in a source that attributes name, or None. File 0 is none before version 5."""
         file, number = entry.get(file), entry.get(number)
         if not number or file is None or not file and entry.unit.version < 5 or not entry.unit.lines():
             return None
         return Line(self.path(entry.unit, file), number)
 
-    def add_function(self, unit, entry, ranges, words):
+    def add_function(self, unit: Unit, entry: Entry, ranges: list[tuple[int, int]], words: set[int]) -> None:
         named = described(entry)
         line = self.line_of(named, dwarf.DECL_FILE, dwarf.DECL_LINE)
         if not line:

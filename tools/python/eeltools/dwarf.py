@@ -1,9 +1,13 @@
 """Reads the debug information of an ELF32 file: the line tables, functions and their ranges of DWARF 2 to 5, as the
 standard has them. Split units (.dwo) are read beside their skeletons."""
+from __future__ import annotations
+
 import os
 import struct
 import zlib
+from collections.abc import Iterator
 from dataclasses import dataclass, field
+from typing import Any
 
 # Tags, attributes and codes by their names in the standard.
 SUBPROGRAM, INLINED = 0x2e, 0x1d
@@ -35,7 +39,7 @@ DAMAGED = (Broken, ArithmeticError, AttributeError, LookupError, RecursionError,
 class Elf:
     """The sections of a file, by their names."""
 
-    def __init__(self, file):
+    def __init__(self, file: bytes) -> None:
         self.file, self.headers, self.rows = file, {}, []
         if file[:6] != b'\x7fELF\1\2':
             raise Broken('no big-endian ELF32 file')
@@ -47,16 +51,16 @@ class Elf:
         strings = self.contents(self.rows[names])
         self.headers = {strings[row[0]:].split(b'\0', 1)[0].decode('utf-8', 'replace'): row for row in self.rows}
 
-    def segments(self):
+    def segments(self) -> list[tuple[int, ...]]:
         """The program headers."""
         phoff, count = *struct.unpack_from('>I', self.file, 28), *struct.unpack_from('>H', self.file, 44)
         return [struct.unpack_from('>8I', self.file, phoff + 32 * number) for number in range(count)]
 
-    def code(self):
+    def code(self) -> list[range]:
         """The addresses of the sections that hold instructions."""
         return [range(row[3], row[3] + row[5]) for row in self.rows if row[2] & 4]
 
-    def functions(self):
+    def functions(self) -> Iterator[tuple[int, str]]:
         """The addresses and names of the functions in the table of symbols."""
         symbols, (*_, link, _, _, size) = self.section('.symtab'), self.headers.get('.symtab', (0,) * 10)
         if size != 16 or link >= len(self.rows):
@@ -67,10 +71,10 @@ class Elf:
             if info & 15 == 2:
                 yield value, names[name:max(names.find(b'\0', name), name)].decode('utf-8', 'replace')
 
-    def contents(self, row):
+    def contents(self, row: tuple[int, ...]) -> bytes:
         return self.file[row[4]:row[4] + row[5]]
 
-    def section(self, name):
+    def section(self, name: str) -> bytes:
         """The bytes of a section, which may be compressed; none where it isn't there."""
         if name not in self.headers or self.headers[name][1] == 8:  # SHT_NOBITS
             return b''
@@ -86,26 +90,26 @@ class Elf:
 class Reader:
     """Numbers and strings of a section, one after the other."""
 
-    def __init__(self, data, at=0):
+    def __init__(self, data: bytes, at: int = 0) -> None:
         self.data, self.at, self.wide = data, at, False
 
-    def number(self, size):
+    def number(self, size: int) -> int:
         value = int.from_bytes(self.data[self.at:self.at + size], 'big')
         self.at += size
         if self.at > len(self.data):
             raise Broken('a section is cut off')
         return value
 
-    def offset(self):
+    def offset(self) -> int:
         return self.number(8 if self.wide else 4)
 
-    def length(self):
+    def length(self) -> int:
         """The length before a unit, which says how wide its offsets are."""
         length = self.number(4)
         self.wide = length == 0xffffffff
         return self.number(8) if self.wide else length
 
-    def uleb(self):
+    def uleb(self) -> int:
         if self.at < len(self.data) and self.data[self.at] < 0x80:
             self.at += 1
             return self.data[self.at - 1]
@@ -120,13 +124,13 @@ class Reader:
             if byte < 0x80:
                 return value
 
-    def sleb(self):
+    def sleb(self) -> int:
         begun = self.at
         value = self.uleb()
         bits = 7 * (self.at - begun)
         return value - (value >> bits - 1 << bits)
 
-    def string(self):
+    def string(self) -> str:
         end = self.data.find(b'\0', self.at)
         if end < 0:
             raise Broken('a string is cut off')
@@ -134,7 +138,7 @@ class Reader:
         self.at = end + 1
         return found.decode('utf-8', 'replace')
 
-    def form(self, form, constant=None):
+    def form(self, form: int, constant: int | None = None) -> int | bytes | None:
         """The value of an attribute as it is written; a block's is its bytes."""
         if form in FIXED:
             return constant if form == 0x21 else True if form == 0x19 else self.number(FIXED[form])
@@ -167,7 +171,7 @@ class Abbreviation:
     fields: list  # attribute, form, constant
     skips: dict = field(default_factory=dict)  # by whether offsets are wide: sizes and what else is to be skipped
 
-    def steps(self, wide):
+    def steps(self, wide: bool) -> list[int]:
         """What is skipped of an entry: sizes from 0 on, and other parts."""
         if wide not in self.skips:
             steps = [0]
@@ -194,14 +198,14 @@ class Row:
 class Entry:
     """An entry of a unit: its attributes, as they are written."""
 
-    def __init__(self, unit, offset, abbreviation, forms):
+    def __init__(self, unit: Unit, offset: int, abbreviation: Abbreviation, forms: dict[int, tuple[int, Any]]) -> None:
         self.unit, self.offset, self.abbreviation, self.forms = unit, offset, abbreviation, forms
         self.tag = abbreviation.tag
 
-    def __contains__(self, attribute):
+    def __contains__(self, attribute: int) -> bool:
         return attribute in self.forms
 
-    def get(self, attribute, default=None):
+    def get(self, attribute: int, default: Any = None) -> Any:
         """An attribute's value, where strings and addresses are looked up."""
         if attribute not in self.forms:
             return default
@@ -212,7 +216,7 @@ class Entry:
 class LineTable:
     """The files and rows of a unit's line table."""
 
-    def __init__(self, dwarf, at):
+    def __init__(self, dwarf: Dwarf, at: int) -> None:
         self.dwarf = dwarf
         read = self.read = Reader(dwarf.section('line'), at)
         self.end = read.length() + read.at
@@ -237,23 +241,23 @@ class LineTable:
             self.folders = [''] + list(iter(read.string, ''))
             self.files = [('?', 0)] + [(name, self.old_file()) for name in iter(read.string, '')]
 
-    def old_file(self):
+    def old_file(self) -> tuple[str, int]:
         folder, _, _ = (self.read.uleb() for _ in range(3))
         return folder
 
-    def listed(self):
+    def listed(self) -> Iterator[dict[int, Any]]:
         """Rows of folders or files, by the contents that they have."""
         formats = [(self.read.uleb(), self.read.uleb()) for _ in range(self.read.number(1))]
         for _ in range(self.read.uleb()):
             yield {kind: self.dwarf.string(form, self.read.form(form)) for kind, form in formats}
 
-    def path(self, number, folder):
+    def path(self, number: int, folder: str) -> str:
         """The path of a file by its number, below the unit's folder."""
         name, at = self.files[number] if number < len(self.files) else ('?', 0)
         own = self.folders[at] if at < len(self.folders) else ''
         return os.path.normpath(os.path.join(folder, own, name))
 
-    def sequences(self):
+    def sequences(self) -> Iterator[tuple[list[Row], int]]:
         """The rows in address order, each sequence with the address behind its last word."""
         self.read.at = self.first
         while self.read.at < self.end:
@@ -263,11 +267,11 @@ class LineTable:
 class LineProgram:
     """The registers of a line table's program, and the rows of one sequence that it makes."""
 
-    def __init__(self, table):
+    def __init__(self, table: LineTable) -> None:
         self.table, self.read, self.rows = table, table.read, []
         self.address, self.file, self.line, self.column, self.is_statement = 0, 1, 1, 0, table.default
 
-    def run(self):
+    def run(self) -> tuple[list[Row], int]:
         """Carries out opcodes up to the end of the sequence."""
         read = self.read
         while read.at < self.table.end:
@@ -281,15 +285,15 @@ class LineProgram:
                 break
         return self.rows, self.address
 
-    def append(self):
+    def append(self) -> None:
         self.rows.append(Row(self.address, self.file, self.line, self.column, self.is_statement))
 
-    def special(self, step):
+    def special(self, step: int) -> None:
         self.address += step // self.table.range * self.table.least
         self.line += self.table.base + step % self.table.range
         self.append()
 
-    def ends(self):
+    def ends(self) -> bool:
         """An extended opcode: whether it is DW_LNE_end_sequence."""
         size = self.read.uleb()
         behind, opcode = self.read.at + size, self.read.number(1)
@@ -298,7 +302,7 @@ class LineProgram:
         self.read.at = behind
         return opcode == 1
 
-    def standard(self, opcode):
+    def standard(self, opcode: int) -> None:
         """The opcodes of a table in the standard, from DW_LNS_copy on."""
         read, table = self.read, self.table
         match opcode:
@@ -315,7 +319,7 @@ class LineProgram:
                     read.uleb()
 
 
-def behind_part(info, at, part):
+def behind_part(info: bytes, at: int, part: int) -> int | None:
     """The offset behind a string or a block, or None where it must be read to tell."""
     if part == STRING:
         return info.index(0, at) + 1
@@ -327,7 +331,7 @@ def behind_part(info, at, part):
 class Unit:
     """A compilation unit, or its part in a .dwo file, which has the line table and addresses of its skeleton."""
 
-    def __init__(self, dwarf, read, skeleton=None):
+    def __init__(self, dwarf: Dwarf, read: Reader, skeleton: Unit | None = None) -> None:
         self.dwarf, self.skeleton, self.start = dwarf, skeleton, read.at
         self.end = read.length() + read.at
         self.wide, self.version, self.kind = read.wide, read.number(2), 1
@@ -343,13 +347,13 @@ class Unit:
         self.folder = self.attribute(COMP_DIR, '')
         self.own_lines = None
 
-    def attribute(self, attribute, default=None):
+    def attribute(self, attribute: int, default: Any = None) -> Any:
         """An attribute of the unit, or of its skeleton."""
         if attribute in self.top or not self.skeleton:
             return self.top.get(attribute, default)
         return self.skeleton.attribute(attribute, default)
 
-    def lines(self):
+    def lines(self) -> LineTable | None:
         """The unit's line table, or None."""
         if self.skeleton:
             return self.skeleton.lines()
@@ -357,11 +361,11 @@ class Unit:
             self.own_lines = self.dwarf.line_table(self.top.get(STMT_LIST))
         return self.own_lines
 
-    def path(self, number):
+    def path(self, number: int) -> str:
         folder = self.skeleton.folder if self.skeleton else self.folder
         return self.lines().path(number, folder) if self.lines() else '?'
 
-    def entry(self, at):
+    def entry(self, at: int) -> tuple[Entry | None, int]:
         """The entry at an offset, or None where one ends a list of children; and the offset behind it."""
         read = Reader(self.dwarf.section('info'), at)
         read.wide = self.wide
@@ -378,7 +382,7 @@ class Unit:
             forms[attribute] = form, read.form(form, constant)
         return Entry(self, at, abbreviation, forms), read.at
 
-    def behind(self, info, at):
+    def behind(self, info: bytes, at: int) -> tuple[int, Abbreviation | None]:
         """The offset behind an entry that isn't wanted, and its abbreviation."""
         begun, code, at = at, info[at], at + 1
         if code > 0x7f:
@@ -400,7 +404,7 @@ class Unit:
                     return self.entry(begun)[1], abbreviation
         return at, abbreviation
 
-    def functions(self):
+    def functions(self) -> Iterator[Entry]:
         """The functions and inlined copies of them, outer ones first."""
         info, at, depth, skipped = self.dwarf.section('info'), self.first, 0, None
         while at < self.end:
@@ -424,7 +428,7 @@ class Unit:
                     skipped = depth
                 depth += 1
 
-    def value(self, form, value):
+    def value(self, form: int, value: Any) -> Any:
         if form in ADDRX:
             base = self.attribute(ADDR_BASE, self.attribute(GNU_ADDR_BASE, 0))
             return self.dwarf.address(base + 4 * value)
@@ -434,12 +438,12 @@ class Unit:
             return self.start + value
         return self.dwarf.string(form, value)
 
-    def referred(self, offset):
+    def referred(self, offset: int) -> Entry | None:
         """The entry at an offset of the section, which may be another unit's."""
         unit = self if self.start <= offset < self.end else self.dwarf.unit_at(offset)
         return unit.entry(offset)[0]
 
-    def ranges(self, entry):
+    def ranges(self, entry: Entry) -> Iterator[tuple[int, int]]:
         """The addresses of an entry's code, from and up to."""
         if RANGES in entry:
             form, value = entry.forms[RANGES]
@@ -448,7 +452,7 @@ class Unit:
             low, high = entry.get(LOW_PC), entry.get(HIGH_PC)
             yield low, high if entry.forms[HIGH_PC][0] in ADDRESSES else low + high
 
-    def listed_ranges(self, form, value):
+    def listed_ranges(self, form: int, value: int) -> Iterator[tuple[int, int]]:
         base = self.attribute(LOW_PC, 0)
         if self.version < 5:
             start = value + (self.skeleton.attribute(GNU_RANGES_BASE, 0) if self.skeleton else 0)
@@ -460,7 +464,7 @@ class Unit:
             value = first + Reader(self.dwarf.section('rnglists'), first + size * value).number(size)
         yield from self.new_ranges(Reader(self.dwarf.section('rnglists'), value), base)
 
-    def new_ranges(self, read, base):
+    def new_ranges(self, read: Reader, base: int) -> Iterator[tuple[int, int]]:
         indexed = lambda: self.value(0x1b, read.uleb())
         while kind := read.number(1):
             if kind == 1:
@@ -483,7 +487,7 @@ class Unit:
                 raise Broken(f'a range has the kind {kind}')
 
 
-def old_ranges(read, base):
+def old_ranges(read: Reader, base: int) -> Iterator[tuple[int, int]]:
     """A list of .debug_ranges."""
     while (pair := (read.number(4), read.number(4))) != (0, 0):
         if pair[0] == 0xffffffff:
@@ -495,16 +499,16 @@ def old_ranges(read, base):
 class Dwarf:
     """The debug information of a file, or of a .dwo file behind it."""
 
-    def __init__(self, elf, outer=None):
+    def __init__(self, elf: Elf, outer: Dwarf | None = None) -> None:
         self.elf, self.outer, self.suffix = elf, outer or self, '.dwo' if outer else ''
         self.sections, self.tables, self.line_tables = {}, {}, {}
 
-    def section(self, name):
+    def section(self, name: str) -> bytes:
         if name not in self.sections:
             self.sections[name] = self.elf.section(f'.debug_{name}{self.suffix}')
         return self.sections[name]
 
-    def units(self, skeleton=None):
+    def units(self, skeleton: Unit | None = None) -> list[Unit]:
         read, self.found = Reader(self.section('info')), []
         while read.at < len(read.data):
             unit = Unit(self, read, skeleton)
@@ -512,19 +516,19 @@ class Dwarf:
             read.at = unit.end
         return self.found
 
-    def unit_at(self, offset):
+    def unit_at(self, offset: int) -> Unit | None:
         for unit in self.found:
             if unit.start <= offset < unit.end:
                 return unit
         raise Broken(f'no unit is at {offset:#x}')
 
-    def abbreviations(self, at):
+    def abbreviations(self, at: int) -> dict[int, Abbreviation]:
         if at not in self.tables:
             self.tables[at] = dict(self.read_abbreviations(Reader(self.section('abbrev'), at)))
         return self.tables[at]
 
     @staticmethod
-    def read_abbreviations(read):
+    def read_abbreviations(read: Reader) -> Iterator[tuple[int, Abbreviation]]:
         while code := read.uleb():
             tag, has_children, fields = read.uleb(), bool(read.number(1)), []
             while True:
@@ -534,21 +538,21 @@ class Dwarf:
                 fields.append((attribute, form, read.sleb() if form == 0x21 else None))
             yield code, Abbreviation(tag, has_children, fields)
 
-    def line_table(self, at):
+    def line_table(self, at: int) -> LineTable:
         if at not in self.line_tables:
             self.line_tables[at] = LineTable(self.outer, at)
         return self.line_tables[at]
 
-    def address(self, at):
+    def address(self, at: int) -> int:
         return Reader(self.outer.section('addr'), at).number(4)
 
-    def string(self, form, value):
+    def string(self, form: int, value: Any) -> Any:
         """A value, where one that says where a string stands is that string."""
         if form == 0x0e:
             return Reader(self.section('str'), value).string()
         return Reader(self.outer.section('line_str'), value).string() if form == 0x1f else value
 
-    def string_at(self, unit, number):
+    def string_at(self, unit: Unit, number: int) -> str:
         """A string by its number in the table of offsets; that of a .dwo file begins with a header since version 5."""
         size = 8 if unit.wide else 4
         base = unit.top.forms.get(STR_OFFSETS_BASE, (0, size * 2 if unit.version >= 5 else 0))[1]

@@ -5,16 +5,20 @@ offset (0x18, say) it is the edges into and out of the block that holds this wor
 are printed in place of them: `edges.py FILE f --do 'keep 0 %o0'` keeps the first argument of each call of f. Such lines
 are for the edges that enter, unless --leave or --within says otherwise.
 """
+from __future__ import annotations
+
 import re
+from argparse import Namespace
+from collections.abc import Iterator
 
 from .scripting import WORDS, Parser, print_lines, refuse
-from .shown import NAMES_HELP, Shown
+from .shown import NAMES_HELP, Edge, Shown
 
 WAYS = ('enter', 'leave', 'within')
 OPERATION = re.compile(r'(?:add|put) \d+ \d+|(?:keep|top) \d+ %[goli][0-7]|count \d+')
 
 
-def edges_of(shown, name):
+def edges_of(shown: Shown, name: str) -> dict[str, list[Edge]]:
     """The edges that enter a function or a block, leave it, and lie within it."""
     function, _, offset = name.partition('+')
     start, ways = shown.routine_called(function), {way: [] for way in WAYS}
@@ -40,7 +44,7 @@ def edges_of(shown, name):
     return ways
 
 
-def printed(shown, words):
+def printed(shown: Shown, words: Namespace) -> Iterator[str]:
     for name in words.names_of:
         for way, edges in edges_of(shown, name).items():
             for edge in edges if way in words.ways else ():
@@ -50,7 +54,7 @@ def printed(shown, words):
                     yield f'{way:<6} edge {edge.number} {edge.kind}: {shown.place(edge.source)} -> {shown.place(edge.target)}'
 
 
-def main():
+def main() -> None:
     parser = Parser(__doc__, '%(prog)s [OPTION..] FILE FUNCTION[+OFFSET]..')
     parser.add_argument('file', metavar='FILE', help='the program')
     parser.add_argument('names_of', metavar='FUNCTION', nargs='+', help='a function, by its name or its address')

@@ -1,4 +1,6 @@
 """How a run ended and where it stands, by the dump of an edited file's run; and what traps are."""
+from __future__ import annotations
+
 import array
 import bisect
 import re
@@ -7,7 +9,8 @@ import sys
 from collections import Counter
 from dataclasses import dataclass
 
-from .shown import is_call, is_return
+from .runs import Run
+from .shown import Shown, is_call, is_return
 
 # What each trap is, and its usual cause.
 TRAPS = {
@@ -27,13 +30,13 @@ ENDINGS = ['stopped', 'exit', 'trap', 'window', 'couple']
 ENDING_LINE = re.compile(rb'(?:(?:exit|trap|stopped) \d+|window|couple)\n\Z')
 
 
-def trap_name(number):
+def trap_name(number: int) -> str:
     if number in TRAPS:
         return TRAPS[number][0]
     return f'software trap {number - 128}' if number >= 128 else 'no trap of this machine'
 
 
-def trap_cause(number):
+def trap_cause(number: int) -> str:
     return TRAPS[number][1] if number in TRAPS else 'a `ta` with this number' if number >= 128 else ''
 
 
@@ -46,7 +49,7 @@ class Ending:
     steps: int
     was_interrupted: bool = False
 
-    def explained(self):
+    def explained(self) -> str | None:
         """What the ending means, or nothing of an exit."""
         return {'trap': f'{trap_name(self.number)}: {trap_cause(self.number)}'.rstrip(': '),
                 'window': 'a register window could not be saved or loaded: %sp or %fp points to no stack',
@@ -55,18 +58,18 @@ class Ending:
                            'the limit of steps was reached: -n says more'}.get(self.kind)
 
 
-def said_before_end(errors):
+def said_before_end(errors: bytes) -> bytes:
     """What a program wrote to its error stream, before the line by which `eel run` tells its ending."""
     return ENDING_LINE.sub(b'', errors)
 
 
-def ending_of(dump, was_interrupted=False):
+def ending_of(dump: bytes, was_interrupted: bool = False) -> Ending:
     """The ending that the bytes of a dump tell."""
     _, _, kind, number, pc, steps = struct.unpack_from('>5IQ', dump)
     return Ending(ENDINGS[kind], number, pc, steps, was_interrupted)
 
 
-def place_of(written, pc):
+def place_of(written: bytes, pc: int) -> int | None:
     """The address of the original's instruction at which a run of the written file stands: itself where it is in none of
     the editor's segments, and None between two places."""
     at, size = struct.unpack_from('>2I', written, 4040)
@@ -86,7 +89,7 @@ def place_of(written, pc):
     return pc
 
 
-def stray_jump(shown, run):
+def stray_jump(shown: Shown, run: Run) -> int | None:
     """The call or jump through a register from which a run came to no instruction, or None where its counts don't tell
     that: all returns must have arrived. Of two calls that didn't come back it is the one that was entered by the other."""
     calls, jumps, arrived = Counter(), Counter(), Counter()
@@ -111,7 +114,7 @@ def stray_jump(shown, run):
     return left[0] if len(left) == 1 else None
 
 
-def entered_first(shown, run):
+def entered_first(shown: Shown, run: Run) -> set[int | None]:
     """The routines that a run is still in, from the first one on up to a call through a register."""
     back, left = Counter(), {}
     for target, count in run.landings():

@@ -3,9 +3,12 @@
 Costs are shared out as in call_costs.py. A recursion is folded: of its routines the one that was entered stands first,
 and each other behind it. What costs less than a 20,000th of all isn't divided further.
 """
-from collections import Counter, defaultdict
+from __future__ import annotations
 
-from .call_costs import components
+from collections import Counter, defaultdict
+from collections.abc import Iterator
+
+from .call_costs import CallCosts, components
 
 PARTS = 20000
 
@@ -13,7 +16,7 @@ PARTS = 20000
 class Folded:
     """The cost of each stack of routines."""
 
-    def __init__(self, costs, total):
+    def __init__(self, costs: CallCosts, total: int) -> None:
         self.costs, self.least, self.stacks, self.group_of = costs, max(1, total // PARTS), Counter(), {}
         nodes = sorted({*costs.own, *costs.below, *costs.above, *costs.roots}, key=lambda node: node or 0)
         for group in components(nodes, [(call.caller, call.callee) for call in costs.calls]):
@@ -22,7 +25,8 @@ class Folded:
         while waiting:
             waiting += self.divide(*waiting.pop())
 
-    def divide(self, above, node, cost):
+    def divide(self, above: tuple[int | None, ...], node: int | None,
+               cost: int) -> Iterator[tuple[tuple[int | None, ...], int | None, int]]:
         """What a routine costs below a stack: its own part counts, and those of what it calls are answered."""
         path, group = (*above, node), self.group_of[node]
         if cost < self.least:
@@ -47,7 +51,7 @@ class Folded:
             elif part:
                 yield stack, callee, part
 
-    def lines(self):
+    def lines(self) -> Iterator[str]:
         for stack, cost in sorted(self.stacks.items(), key=lambda item: (-item[1], item[0])):
             if cost:
                 yield f'{";".join(self.costs.name_of(node).replace(";", ",") for node in stack)} {cost}'

@@ -1,13 +1,17 @@
 """Lines, functions and branches in the form of `gcov --json-format`, version 1, which gcc has written from version 9 on, for
 what reads that. Columns in which functions end aren't known, and are 0."""
+from __future__ import annotations
+
 import json
 import os
 import re
 from collections import defaultdict
+from collections.abc import Iterator
+from typing import Any
 
 from .debug_lines import Line
 from .line_counts import has_work
-from .source_counts import branch_ways
+from .source_counts import Called, SourceCounts, branch_ways
 
 FORMAT = '1'
 
@@ -15,7 +19,7 @@ FORMAT = '1'
 class GcovJson:
     """The object. A part of the code is the body of a function, or a routine that debug information doesn't know."""
 
-    def __init__(self, counts):
+    def __init__(self, counts: SourceCounts) -> None:
         self.counts, self.shown, self.run, self.debug = counts, counts.shown, counts.run, counts.debug
         self.words, self.branches = defaultdict(list), defaultdict(list)
         self.part_lines, self.part_blocks = defaultdict(set), defaultdict(set)
@@ -30,7 +34,7 @@ class GcovJson:
         self.owner.update((row.line, self.symbol_of[part]) for row in self.debug.marks
                           if (part := self.part_of(row.address)) in self.symbol_of)
 
-    def find_parts(self):
+    def find_parts(self) -> None:
         code = self.shown.code(self.run)
         for address in sorted(self.debug.line_at.keys() | self.debug.body_at.keys()):
             part, block = self.part_of(address), self.shown.block_of(address)
@@ -40,21 +44,21 @@ class GcovJson:
             if block and block.first in code:
                 self.part_blocks[part].add(block.first)
 
-    def part_of(self, address):
+    def part_of(self, address: int) -> Any:
         body = self.debug.body_at.get(address)
         return body if body in self.known else self.shown.routine_of(address)
 
-    def lines(self):
+    def lines(self) -> Iterator[str]:
         """One line, as gcov prints it."""
         yield json.dumps({'gcc_version': self.compiler(), 'format_version': FORMAT, 'current_working_directory': os.getcwd(),
                           'data_file': self.shown.name, 'files': list(self.files())})
 
-    def compiler(self):
+    def compiler(self) -> str:
         """The version of the compiler that most units name, which isn't the assembler."""
         found = [re.search(r'\d+(?:\.\d+)+|$', name)[0] for name in self.debug.producers if not name.startswith('GNU AS')]
         return max(sorted(found), key=found.count, default='')
 
-    def files(self):
+    def files(self) -> Iterator[dict[str, Any]]:
         functions = defaultdict(list)
         for parts, called in self.named:
             if called.line:
@@ -63,7 +67,7 @@ class GcovJson:
             yield {'file': path, 'functions': sorted(functions[path], key=lambda function: function['start_line']),
                    'lines': [self.line(Line(path, number), count) for number, count in counted.items()]}
 
-    def function(self, parts, called):
+    def function(self, parts: set[Any], called: Called) -> dict[str, Any]:
         """A function goes up to the last line of its own source that has code of it."""
         ends = (line.number for part in parts for line in self.part_lines[part] if line.path == called.line.path)
         blocks = set().union(*(self.part_blocks[part] for part in parts))
@@ -72,7 +76,7 @@ class GcovJson:
                 'blocks': len(blocks), 'blocks_executed': sum(bool(self.run.blocks[first]) for first in blocks),
                 'execution_count': called.calls}
 
-    def line(self, line, count):
+    def line(self, line: Line, count: int) -> dict[str, Any]:
         names = (self.symbol_of.get(self.part_of(address)) for address in self.words[line])
         name = next(filter(None, names), self.owner.get(line))
         has_unexecuted = not count or any(has_work(self.shown.word(address)) and not self.run.times(address)

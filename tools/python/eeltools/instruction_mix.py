@@ -1,7 +1,11 @@
 """What kinds of instructions a run carried out, by the words of the text: loads, stores, branches, calls and so on."""
-from collections import Counter
+from __future__ import annotations
 
-from .shown import NOP, is_return
+from collections import Counter
+from collections.abc import Callable
+
+from .runs import Run
+from .shown import NOP, Shown, is_return
 
 LOAD, STORE, BOTH = 'loads', 'stores', 'loads that store (ldstub, swap)'
 CONDITIONAL, TAKEN, UNTAKEN = 'conditional branches', 'conditional branches, taken', 'conditional branches, not taken'
@@ -28,7 +32,7 @@ LONG_NAMES = {'Ir': 'instructions', 'Dr': 'loads', 'Dw': 'stores', 'Bc': 'condit
               'Calls': 'calls', 'Saves': 'saves', 'Restores': 'restores', 'sysCount': 'system calls'}
 
 
-def kind_of(word):
+def kind_of(word: int | None) -> str:
     """The kind of an instruction, by its fields as appendix F of the manual has them."""
     op, op2, op3 = word >> 30, word >> 22 & 7, word >> 19 & 63
     if op == 1:
@@ -42,7 +46,7 @@ def kind_of(word):
     return NOTHING if word == NOP else ARITHMETIC if op2 == SETHI else OTHER
 
 
-def kind_of_operation(word, op3):
+def kind_of_operation(word: int, op3: int) -> str:
     if op3 == JMPL:
         return RETURN if is_return(word) else INDIRECT if word >> 25 & 31 == O7 else JUMP
     if op3 == TICC:
@@ -60,7 +64,7 @@ class InstructionMix:
     """How many instructions of each kind a run carried out, and how often branches were taken, where that is known of
     all. A branch in whose slot the run ended counts as not taken."""
 
-    def __init__(self, shown, run):
+    def __init__(self, shown: Shown, run: Run) -> None:
         self.run = run
         self.kinds = {address: kind_of(shown.word(address)) for address, count in run.words.items() if count}
         branches = [block for first, block in shown.blocks.items() if self.kinds.get(block.last()) == CONDITIONAL]
@@ -69,7 +73,7 @@ class InstructionMix:
         self.taken = {address: sum(map(run.edge, edges)) for address, edges in ways.items()} if self.is_known else {}
         self.events = [event for event in EVENTS if event != 'Bct' or self.is_known]
 
-    def counts(self, is_wanted=lambda address: True):
+    def counts(self, is_wanted: Callable[[int], bool] = lambda address: True) -> Counter[str]:
         """The instructions by their kinds, of all words or of some."""
         found, wanted = Counter(), list(filter(is_wanted, self.kinds))
         for address in wanted:
@@ -79,7 +83,7 @@ class InstructionMix:
             found[UNTAKEN] = found.pop(CONDITIONAL) - found[TAKEN]
         return +found
 
-    def costs(self, address):
+    def costs(self, address: int) -> list[int]:
         """What a word counts for in each event."""
         kind, count = self.kinds.get(address), self.run.words.get(address, 0)
         return [count if event == 'Ir' or kind in EVENTS[event] else self.taken.get(address, 0) if event == 'Bct' else 0

@@ -1,32 +1,36 @@
 """The loops of a program in a run: natural loops of each routine, with the instructions that they took."""
+from __future__ import annotations
+
 from collections import defaultdict
+from collections.abc import Iterator
 from dataclasses import dataclass, field
 
-from .shown import is_return
+from .runs import Run
+from .shown import Edge, Shown, is_return
 
 
 @dataclass
 class Loop:
     """A loop: the block at which it begins, its blocks, and how often control came back to its beginning."""
     head: int
-    routine: int
+    routine: int | None
     rounds: int = 0
-    blocks: set = field(default_factory=set)
+    blocks: set[int] = field(default_factory=set)
     instructions: int = 0
     own: int = 0  # without those of the loops within it
 
 
-def labels_of(routine):
+def labels_of(routine: int | None) -> int:
     """The place through which jumps lead to a routine's labels: no address."""
     return -1 - (routine or 0)
 
 
-def completed(shown, run):
+def completed(shown: Shown, run: Run) -> Iterator[tuple[Edge, int]]:
     """The edges that were completed, and how often."""
     return ((shown.edges[number], count) for number, count in run.edges.items() if count)
 
 
-def ways_within(shown, run):
+def ways_within(shown: Shown, run: Run) -> dict[int, dict[int, int]]:
     """Where control went within each routine, and how often; from a call it goes on behind it. Jumps through a register
     to labels of the routine lead through a place of their own, since it isn't known which leads to which."""
     ways = defaultdict(lambda: defaultdict(int))
@@ -47,7 +51,7 @@ def ways_within(shown, run):
     return ways
 
 
-def back_ways(heads, ways):
+def back_ways(heads: list[int], ways: dict[int, dict[int, int]]) -> Iterator[tuple[int, int]]:
     """The ways that lead back to a block on the path to them, by a search in depth from the given blocks."""
     seen, path = set(), set()
     for head in heads:
@@ -71,7 +75,7 @@ def back_ways(heads, ways):
                 waiting.pop()
 
 
-def leading_to(head, ends, before):
+def leading_to(head: int, ends: list[int], before: dict[int, set[int]]) -> set[int]:
     """The blocks from which the ends are reached without the head, and the head."""
     found, waiting = {head}, list(ends)
     while waiting:
@@ -82,7 +86,7 @@ def leading_to(head, ends, before):
     return found
 
 
-def costs_of(shown, run):
+def costs_of(shown: Shown, run: Run) -> dict[int, int]:
     """The instructions of each block, with those in its delay slot."""
     costs = defaultdict(int)
     for first, block in shown.blocks.items():
@@ -94,7 +98,7 @@ def costs_of(shown, run):
     return costs
 
 
-def loops(shown, run):
+def loops(shown: Shown, run: Run) -> list[Loop]:
     """All loops that went round, those of most instructions of their own first."""
     ways, before, found, costs = ways_within(shown, run), defaultdict(set), {}, costs_of(shown, run)
     for block, targets in list(ways.items()):

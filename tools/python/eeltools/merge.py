@@ -3,7 +3,10 @@
 They are lines that `eel counts` printed, or `eel visits`, of edits of the same program, or what `profile.py --counts`
 kept of it. What is printed is such lines again, which the other scripts read, and which can be the weights of a profile.
 """
+from __future__ import annotations
+
 import re
+from collections.abc import Iterator
 
 from .scripting import Parser, print_lines, read_lines, refuse
 
@@ -13,7 +16,7 @@ LAST = {EDGE: re.compile(r'(edges \d+ counted )(\d+)( executions) (\d+)'),
         WORD: re.compile(r'(words \d+ visited )(\d+)( visits) (\d+)')}
 
 
-def parts_of(name):
+def parts_of(name: str) -> dict[re.Pattern[str], list[str]]:
     """The lines of a file by their kind: visits, with the counts of the ways between words behind them or not; or counts."""
     lines = read_lines(name)
     ends = next((at for at, line in enumerate(lines, 1) if line.startswith('words ')), 0)
@@ -22,7 +25,8 @@ def parts_of(name):
     return {EDGE: lines}
 
 
-def added(names, kind, parts):
+def added(names: list[str], kind: re.Pattern[str],
+          parts: list[dict[re.Pattern[str], list[str]]]) -> tuple[dict[str, tuple[str, int]], re.Match[str]]:
     """The sums by the edges or words in their order, and the last line of the first file."""
     sums, first = {}, None
     for name, part in zip(names, parts):
@@ -45,7 +49,7 @@ def added(names, kind, parts):
     return sums, first
 
 
-def lines_of(kind, sums, first):
+def lines_of(kind: re.Pattern[str], sums: dict[str, tuple[str, int]], first: re.Match[str]) -> Iterator[str]:
     base = 10 if kind == EDGE else 16
     for key in sorted(sums, key=lambda key: int(key, base)):
         yield f'{sums[key][0]} {sums[key][1]}'
@@ -53,7 +57,7 @@ def lines_of(kind, sums, first):
     yield f'{first[1]}{number}{first[3]} {sum(count for _, count in sums.values())}'
 
 
-def main():
+def main() -> None:
     parser = Parser(__doc__, '%(prog)s COUNTS COUNTS..')
     parser.add_argument('counts', metavar='COUNTS', nargs='+', help='what `eel counts` or `eel visits` printed')
     names = parser.parse_args().counts

@@ -5,9 +5,12 @@ before them or not; what begins with `#` is left out. Those that say another ins
 address are put there, and the program so changed is written as OUT. What was changed is printed. A routine's name may
 stand where a branch or a CALL leads.
 """
+from __future__ import annotations
+
 import os
 import re
 import tempfile
+from collections.abc import Iterator
 
 from .scripting import Parser, opened_for_output, print_lines, read_lines, refuse, refuse_loss, write_pieces
 from .shown import Shown, call_eel, eel
@@ -19,7 +22,7 @@ LINE = re.compile(r'(?:\x1b\[[0-9;]*m)?(?:.*?\s)?(?P<address>[0-9a-f]{8})\s+(?P<
 class Patch:
     """The words that a listing changes."""
 
-    def __init__(self, shown, listing):
+    def __init__(self, shown: Shown, listing: str) -> None:
         self.shown = shown
         self.texts = {int(line[:8], 16): line[9:] for line in eel('list', shown.name)}
         self.addresses = {name: start for start, name in shown.routines.items()}
@@ -30,7 +33,7 @@ class Patch:
             elif line.strip() and not line.startswith('#') and ' instructions, ' not in line and not line.endswith(':'):
                 refuse(f'{listing}: line {at}: no address with an instruction')
 
-    def take(self, place, address, text):
+    def take(self, place: str, address: int, text: str) -> None:
         if address not in self.texts:
             refuse(f'{place}: {self.shown.name} has no word at {address:08x}')
         own = self.texts[address]
@@ -40,7 +43,7 @@ class Patch:
         if wanted != own:
             self.changed[address] = place, wanted, self.word(place, address, wanted)
 
-    def word(self, place, address, text):
+    def word(self, place: str, address: int, text: str) -> bytes:
         """The word that an instruction is at an address."""
         with tempfile.TemporaryDirectory(prefix='eel-patch-') as folder:
             listing, words = (os.path.join(folder, name) for name in ('listing', 'words'))
@@ -52,7 +55,7 @@ class Patch:
             with open(words, 'rb') as opened:
                 return opened.read()
 
-    def file(self):
+    def file(self) -> bytearray:
         """The program with the words that are changed."""
         file = bytearray(self.shown.file)
         for address, (place, _, word) in self.changed.items():
@@ -62,14 +65,14 @@ class Patch:
             file[offset:offset + 4] = word
         return file
 
-    def lines(self):
+    def lines(self) -> Iterator[str]:
         for address, (_, text, _) in sorted(self.changed.items()):
             before, after = (spelled(one, self.shown.routines.get) for one in (self.texts[address], text))
             yield f'{self.shown.place(address)}: {before} -> {after}'
         yield f'{len(self.changed)} word{"" if len(self.changed) == 1 else "s"} changed'
 
 
-def main():
+def main() -> None:
     parser = Parser(__doc__)
     parser.add_argument('file', metavar='IN', help='the program')
     parser.add_argument('listing', metavar='LISTING', help='lines of instructions')

@@ -11,6 +11,8 @@ The status is 0 where the program exited, or its own status with --exit-status; 
 Where it can't be run the status is from 64 to 78, as of `eel run`, and the error stream says why. An interrupt ends a
 run, of which then the first steps alone are profiled.
 """
+from __future__ import annotations
+
 import argparse
 import importlib
 import os
@@ -21,20 +23,23 @@ import tempfile
 import threading
 import time
 import zlib
+from collections.abc import Iterable, Iterator
+from typing import BinaryIO, NoReturn
 
 from .debug_lines import ROOT_HELP, DebugLines
 from .dwarf import Elf
-from .endings import ending_of, place_of, said_before_end, stray_jump
+from .endings import Ending, ending_of, place_of, said_before_end, stray_jump
 from .filters import Filters, add_options
 from .gcov_json import GcovJson
 from .profile_json import ProfileJson
 from .report import FUNCTIONS, Report
-from .runs import run_of
+from .runs import Run, run_of
 from .scripting import (DEVICE, EEL, MISSING, Parser, note, opened_for_output, print_lines, read_all, read_file, refuse,
-                       refuse_loss, said_if_long, wants_built, why, write_pieces)
+                        refuse_loss, said_if_long, wants_built, why, write_pieces)
 from .shown import NAMES_HELP, Shown, call_eel, explained, figure, is_address, status_of
 from .source_counts import INLINED_HELP, tell_limits
 
+Output = BinaryIO | int  # a file, or the number of a stream
 LIMIT = 10 ** 11
 MOST_STEPS = 100  # beyond a limit, to stand at a place
 TRAPPED = 3  # the status where the program didn't exit
@@ -51,7 +56,7 @@ FORMS = {'json': 'write all figures as JSON, as docs/profile.schema.json says; p
          'gcov_json': 'write lines, functions and branches as gcov does in JSON; the same'}
 
 
-def watched(words, given, stdout):
+def watched(words: list[str], given: bytes | None, stdout: Output) -> subprocess.CompletedProcess[bytes]:
     """A call of `eel` that may take long: on a terminal it is said from time to time how long it has taken."""
     wants_built()
     started, told = time.monotonic(), 10
@@ -73,11 +78,11 @@ def watched(words, given, stdout):
 class Tables(threading.Thread):
     """The program and its lines, which are read while it runs."""
 
-    def __init__(self, words):
+    def __init__(self, words: argparse.Namespace) -> None:
         super().__init__(daemon=True)
         self.words, self.ended, self.own, self.debug, self.has_own = words, None, None, None, threading.Event()
 
-    def run(self):
+    def run(self) -> None:
         try:
             self.own = Shown(self.words.file, self.words.names)
             self.has_own.set()
@@ -86,14 +91,14 @@ class Tables(threading.Thread):
             self.ended = ended
         self.has_own.set()
 
-    def shown(self):
+    def shown(self) -> Shown:
         """The program alone."""
         self.has_own.wait()
         if self.ended:
             raise self.ended
         return self.own
 
-    def read(self):
+    def read(self) -> tuple[Shown, DebugLines]:
         self.join()
         return self.shown(), self.debug
 
@@ -101,11 +106,11 @@ class Tables(threading.Thread):
 class Session:
     """Edits, runs and counts of a program, in a folder of its own."""
 
-    def __init__(self, words, folder):
+    def __init__(self, words: argparse.Namespace, folder: str) -> None:
         self.words, self.folder, self.tables, self.given, self.was_interrupted = words, folder, Tables(words), b'', False
         self.written, self.dump, self.counts = (os.path.join(folder, name) for name in ('written', 'dump', 'counts'))
 
-    def refuse(self, called, output=None):
+    def refuse(self, called: subprocess.CompletedProcess[bytes], output: str | None = None) -> NoReturn:
         """Ends the script by what `eel` said; where it could write no file it is looked which."""
         told = called.stderr.decode('utf-8', 'replace').strip().split('\n')[-1].removeprefix('eel: ')
         told = told.replace(self.dump, 'the run')
@@ -117,17 +122,17 @@ class Session:
             told = f'{output} can\'t be written: there is no room, or its device failed'
         refuse(told or f'the run failed by status {called.returncode}', status_of(called))
 
-    def checked(self, *words):
+    def checked(self, *words: str) -> bytes:
         called = call_eel(*words)
         if called.returncode:
             self.refuse(called)
         return called.stdout
 
-    def edit(self, tool, *weights):
+    def edit(self, tool: str, *weights: str) -> None:
         with said_if_long('the program is edited'):
             self.checked('edit', self.words.file, self.written, tool, *weights)
 
-    def refuse_early(self):
+    def refuse_early(self) -> None:
         """Refuses what no run would change: lines that aren't there, and functions and sources of other names."""
         self.tables.start()
         wants_lines = self.words.printer == 'lcov' or self.words.gcov_json is not None
@@ -142,7 +147,7 @@ class Session:
         if filters.source_file is not None:
             filters.want_source(*self.tables.read())
 
-    def run(self, limit, output):
+    def run(self, limit: int, output: Output) -> None:
         """Runs the written file; what the program put out goes on."""
         called = watched(['run', self.written, '-n', str(limit), '-d', self.dump, '--', *self.words.args], self.given,
                          output)
@@ -152,7 +157,7 @@ class Session:
             sys.stderr.buffer.write(own if own.endswith(b'\n') else own + b'\n')
             sys.stderr.flush()
 
-    def run_or_begin(self, limit, output):
+    def run_or_begin(self, limit: int, output: Output) -> int:
         """Runs the written file or, where that is interrupted, its first steps alone. The limit is answered."""
         started = time.monotonic()
         try:
@@ -165,7 +170,7 @@ class Session:
             self.run(limit, subprocess.DEVNULL)
         return limit
 
-    def count(self, tool, output):
+    def count(self, tool: str, output: Output) -> Ending:
         """A profile: what was counted goes to a file, and the run's ending is answered."""
         limit = self.run_or_begin(self.words.limit, output)
         reports = ['visits', 'counts'] if tool == 'every' else ['counts']
@@ -188,7 +193,7 @@ class Session:
         return ending_of(read_file(self.dump), self.was_interrupted)
 
 
-def program_input(name):
+def program_input(name: str | None) -> bytes:
     """The input of the program: a file, or all of the standard input, if there is one."""
     if name:
         return read_file(name)
@@ -202,12 +207,12 @@ def program_input(name):
         refuse(f'the standard input: {why(error)}', MISSING)
 
 
-def has_lines(file):
+def has_lines(file: bytes) -> bool:
     """Whether a program has line tables, or names a file that may have them."""
     return not {'.debug_line', '.gnu_debuglink'}.isdisjoint(Elf(file).headers)
 
 
-def profiled(words, session, tool, output):
+def profiled(words: argparse.Namespace, session: Session, tool: str, output: Output) -> Ending:
     """Profiles the program, once or twice, and answers the ending of the last run."""
     if words.weights:
         session.count(tool, subprocess.DEVNULL)
@@ -217,15 +222,16 @@ def profiled(words, session, tool, output):
     return session.count(tool, output)
 
 
-def told_of(ending):
+def told_of(ending: Ending) -> str:
     return {'exit': f'exit {ending.number}', 'trap': f'trap {ending.number}',
             'stopped': f'stopped {ending.steps}'}.get(ending.kind, ending.kind)
 
 
-def place_lines(words, shown, debug, run, ending, stands):
+def place_lines(words: argparse.Namespace, shown: Shown, debug: DebugLines, run: Run, ending: Ending,
+                stands: int | None) -> Iterator[str]:
     """Why a run ended that didn't exit, and where: the instruction, its function and its line. Where it jumped to what is
     no code, it is told from where, or how to find that."""
-    def place(address):
+    def place(address: int) -> str:
         line = debug.line_at.get(address)
         return shown.place(address) + (f', {os.path.basename(line.path)}:{line.number}' if line else '')
 
@@ -246,7 +252,7 @@ def place_lines(words, shown, debug, run, ending, stands):
         yield '  eel trace traced dump > edges, and annotate.py with that'
 
 
-def printed_by(words, session, shown, debug, run):
+def printed_by(words: argparse.Namespace, session: Session, shown: Shown, debug: DebugLines, run: Run) -> Iterator[str]:
     """What another script prints of what was counted."""
     name, _ = PRINTERS[words.printer]
     options = [f'--{words.printer}'] if words.printer in ('lcov', 'callgrind', 'folded') else []
@@ -259,7 +265,7 @@ def printed_by(words, session, shown, debug, run):
     return printer.printed(shown, run, asked, *([debug] if name != 'graph' else []))
 
 
-def parsed():
+def parsed() -> argparse.Namespace:
     parser = Parser(__doc__, '%(prog)s [OPTION..] FILE [ARG..]')
     parser.add_argument('file', metavar='FILE', help='the program')
     parser.add_argument('args', metavar='ARG', nargs=argparse.REMAINDER, help='its arguments').required = False
@@ -297,7 +303,7 @@ def parsed():
     return words
 
 
-def misfits(words):
+def misfits(words: argparse.Namespace) -> Iterator[str]:
     """What doesn't fit together of the options."""
     if not 0 <= words.limit < 2 ** 64 - MOST_STEPS:
         yield 'the limit is out of range'
@@ -316,26 +322,26 @@ def misfits(words):
     yield from (f'{name} would be written twice' for name, path in zip(written_by(words), paths) if paths.count(path) > 1)
 
 
-def written_by(words):
+def written_by(words: argparse.Namespace) -> list[str]:
     """The names of the files that are written."""
     return [*filter(None, [words.output, words.counts]), *(name for name in words.forms.values() if name != '-')]
 
 
-def temporary_folder():
+def temporary_folder() -> tempfile.TemporaryDirectory[str]:
     try:
         return tempfile.TemporaryDirectory(prefix='eel-profile-', ignore_cleanup_errors=True)
     except OSError as error:
         refuse(f'there is no folder for temporary files, which TMPDIR names: {why(error)}', DEVICE)
 
 
-def status_by(ending, is_own):
+def status_by(ending: Ending, is_own: bool) -> int:
     """The status of the script: with --exit-status that of a program that exited."""
     if ending.kind != 'exit':
         return TRAPPED
     return ending.number if is_own else 0
 
 
-def main():
+def main() -> int:
     words = parsed()
     read_file(words.file)
     refuse_loss(written_by(words), [words.file, words.input or 0, *filter(None, [words.names])])
@@ -371,7 +377,7 @@ def main():
     return status_by(ending, words.exit_status)
 
 
-def write_forms(words, told, ending, stands, files):
+def write_forms(words: argparse.Namespace, told: Report, ending: Ending, stands: int | None, files: dict[str, BinaryIO]) -> None:
     """Writes the forms in JSON that were asked for, to files or to the standard output."""
     counted = 'weights' if words.weights else 'edges' if words.edges else 'every'
     for form, name in words.forms.items():
@@ -385,14 +391,14 @@ def write_forms(words, told, ending, stands, files):
                 write_pieces(files[name], packed(lines) if name.endswith('.gz') else lines)
 
 
-def packed(pieces):
+def packed(pieces: Iterable[bytes]) -> Iterator[bytes]:
     """The same as gzip packs it, without a time."""
     packer = zlib.compressobj(9, wbits=31)
     yield from map(packer.compress, pieces)
     yield packer.flush()
 
 
-def report(words, told, ending, places):
+def report(words: argparse.Namespace, told: Report, ending: Ending, places: list[str]) -> None:
     """Prints functions, loops and lines."""
     with said_if_long('lines and loops are worked out'):
         lines = list(told.all(None if words.all else FUNCTIONS))

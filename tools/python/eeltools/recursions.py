@@ -2,9 +2,14 @@
 
 Where A is the matrix of how many calls of another routine a call of each makes, a call costs x = costs + A x, and the
 diagonal of the inverse of 1 - A says how often a routine is called within one call of its own."""
-import heapq
-from operator import mul
+from __future__ import annotations
 
+import heapq
+from collections.abc import Hashable, Iterable, Mapping
+from operator import mul
+from typing import Any, TypeVar
+
+Node = TypeVar('Node', bound=Hashable)
 MANY_WAYS = 64  # from callers to callees, by which a routine that is taken out would be replaced
 MOST_EXACT = 150  # routines that are left, of which all is worked out
 ROUNDS, CLOSE = 100, 1e-9
@@ -18,7 +23,7 @@ class Recursion:
     way in which they keep going (the greatest eigenvalue with its vectors), and what two calls in turn add to that. Where
     they don't mix, as two recursions that call each other seldom, all of the inverse is worked out."""
 
-    def __init__(self, costs, calls):
+    def __init__(self, costs: Mapping[Any, float], calls: Iterable[tuple[Any, Any, float]]) -> None:
         self.costs, self.rows, self.columns = dict(costs), {node: {} for node in costs}, {node: set() for node in costs}
         for caller, callee, number in calls:
             self.rows[caller][callee] = self.rows[caller].get(callee, 0) + number
@@ -31,10 +36,10 @@ class Recursion:
             self.each, self.inverse = mixed or core.exact()
         self.put_back()
 
-    def ways(self, node):
+    def ways(self, node: Any) -> int:
         return len(self.rows[node]) * len(self.columns[node])
 
-    def take_out(self):
+    def take_out(self) -> None:
         places = {node: place for place, node in enumerate(self.rows)}
         waiting = [(self.ways(node), place, node) for node, place in places.items()]
         heapq.heapify(waiting)
@@ -46,7 +51,7 @@ class Recursion:
                 for other in self.take(node):
                     heapq.heappush(waiting, (self.ways(other), places[other], other))
 
-    def take(self, node):
+    def take(self, node: Any) -> set[Any]:
         """Takes out a routine, and answers its neighbours, which now call each other in its place."""
         row, above = self.rows.pop(node), self.columns.pop(node)
         pivot = 1 - row.pop(node, 0)
@@ -63,7 +68,7 @@ class Recursion:
         self.steps.append((node, pivot, row, factors))
         return row.keys() | factors.keys()
 
-    def put_back(self):
+    def put_back(self) -> None:
         each, inverse = self.each, self.inverse
         for node, pivot, row, factors in reversed(self.steps):
             each[node] = (self.costs[node] + sum(number * each[callee] for callee, number in row.items())) / pivot
@@ -77,7 +82,7 @@ class Recursion:
 class Core:
     """What is left of a recursion, by numbers in place of routines; calls of oneself are divided out."""
 
-    def __init__(self, rows, costs):
+    def __init__(self, rows: dict[Any, dict[Any, float]], costs: dict[Any, float]) -> None:
         self.nodes = list(rows)
         self.places = {node: place for place, node in enumerate(self.nodes)}
         self.pivots = [1 - rows[node].get(node, 0) for node in self.nodes]
@@ -85,7 +90,7 @@ class Core:
         self.rows = [{self.places[callee]: number / pivot for callee, number in rows[node].items() if callee != node}
                      for node, pivot in zip(self.nodes, self.pivots)]
 
-    def exact(self):
+    def exact(self) -> tuple[dict[Any, float], dict[tuple[Any, Any], float]]:
         """The costs and the inverse, worked out in place; no pivot can be too small, since all calls end."""
         size = range(len(self.nodes))
         rows = [[float(at == to) - self.rows[at].get(to, 0) for to in size] for at in size]
@@ -100,7 +105,7 @@ class Core:
         return each, {(node, other): number / pivot for node, row in zip(self.nodes, rows)
                       for other, number, pivot in zip(self.nodes, row, self.pivots)}
 
-    def mixed(self):
+    def mixed(self) -> tuple[dict[Any, float], dict[tuple[Any, Any], float]] | None:
         """The same where calls mix, else None: what goes on by the one way is answered apart from the rest, which ends soon."""
         columns = [{} for _ in self.nodes]
         for at, row in enumerate(self.rows):
@@ -120,7 +125,7 @@ class Core:
         each = {node: share / ends * part + more for node, part, more in zip(self.nodes, right, rest)}
         return each, Mixed(self, right, left, ends)
 
-    def summed(self, costs, right, left):
+    def summed(self, costs: list[float], right: list[float], left: list[float]) -> list[float] | None:
         """What costs come to with all calls, without what goes on, or None where they don't end soon."""
         found = costs
         for _ in range(ROUNDS):
@@ -136,11 +141,11 @@ class Core:
 class Mixed(dict):
     """The inverse by what goes on, and by two calls in turn; entries are worked out when they are asked for."""
 
-    def __init__(self, core, right, left, ends):
+    def __init__(self, core: Core, right: list[float], left: list[float], ends: float) -> None:
         super().__init__()
         self.core, self.right, self.left, self.ends = core, right, left, ends
 
-    def __missing__(self, pair):
+    def __missing__(self, pair: tuple[Any, Any]) -> float:
         at, to = map(self.core.places.get, pair)
         rows, lasting, goes_on = self.core.rows, self.right[at] * self.left[to], 1 - self.ends
         found = lasting * (1 / self.ends - 1 - goes_on) + rows[at].get(to, 0)
@@ -149,11 +154,11 @@ class Mixed(dict):
         return found / self.core.pivots[to]
 
 
-def product(rows, vector):
+def product(rows: list[dict[int, float]], vector: list[float]) -> list[float]:
     return [sum(number * vector[to] for to, number in row.items()) for row in rows]
 
 
-def lasting(rows):
+def lasting(rows: list[dict[int, float]]) -> list[float] | None:
     """The vector to which a matrix with no negative number brings others, or None where it doesn't soon."""
     found = [1.0] * len(rows)
     for _ in range(ROUNDS):
@@ -166,7 +171,7 @@ def lasting(rows):
     return None
 
 
-def solved(costs, calls):
+def solved(costs: Mapping[Node, float], calls: Iterable[tuple[Node, Node, float]]) -> tuple[dict[Node, float], dict[Node, float]]:
     """What a call of each of some routines costs, with those that it leads to, and how often a routine is called within
     one call of its own, that one included: for each routine what it costs itself, and how many calls of others it makes."""
     found = Recursion(costs, calls)

@@ -1,20 +1,26 @@
 """The report of a profile: functions, loops, lines and kinds of instructions, the hottest first."""
+from __future__ import annotations
+
 import os
 from collections import Counter
+from collections.abc import Callable, Iterable, Iterator
+from typing import Any
 
 from .call_costs import POINTER_NAME
+from .debug_lines import DebugLines, Line
 from .filters import Filters, debug_of_routines
 from .instruction_mix import InstructionMix
 from .line_counts import LineCounts
-from .loops import loops
+from .loops import Loop, loops
+from .runs import Run
 from .scripting import read_lines
-from .shown import figure, known, share
+from .shown import Shown, figure, known, share
 from .source_counts import SourceCounts, reached
 
 FUNCTIONS, LOOPS, LINES, WIDTH = 20, 5, 10, 60
 
 
-def table(heading, rows):
+def table(heading: tuple[Any, ...], rows: Iterable[tuple[Any, ...]]) -> Iterator[str]:
     """A table of lines, each with a share, numbers and a text."""
     yield ''
     *numbers, text = heading
@@ -27,32 +33,33 @@ def table(heading, rows):
 class Report:
     """The functions, loops and lines of a run, and its instructions by kind; or those that filters take."""
 
-    def __init__(self, shown, run, debug, filters=Filters()):
+    def __init__(self, shown: Shown, run: Run, debug: DebugLines, filters: Filters = Filters()) -> None:
         self.shown, self.run, self.debug, self.filters, self.paths = shown, run, debug, filters, set()
         self.counts = SourceCounts(shown, run, debug)
         self.unsure = {shown.routine_of(address) for address in run.unsure if run.words[address]}
         self.routines = {start for start in [None, *shown.starts] if filters.takes_function(shown.name_of(start))}
 
-    def share(self, count):
+    def share(self, count: int) -> str:
         return share(count, self.run.total)
 
-    def takes(self, routine, line):
+    def takes(self, routine: int | None, line: Line | None) -> bool:
         return routine in self.routines and self.filters.takes_line(line)
 
-    def takes_word(self, address):
+    def takes_word(self, address: int) -> bool:
         is_wanted = self.filters.function is None or self.shown.routine_of(address) in self.routines
         return is_wanted and self.filters.takes_line(self.debug.line_at.get(address))
 
-    def split(self, rows, is_wanted, count_of, most):
+    def split(self, rows: Iterable[Any], is_wanted: Callable[[Any], bool], count_of: Callable[[Any], Any],
+              most: int | None) -> tuple[list[Any], list[Any]]:
         return self.filters.split(rows, is_wanted, count_of, self.run.total, most)
 
-    def left_out(self, count, is_sure, columns, number, what):
+    def left_out(self, count: int, is_sure: bool, columns: int, number: int, what: str) -> Iterator[tuple[Any, ...]]:
         """The row of what filters leave out of a table, if that is anything: so many rows, or parts of rows alone."""
         if count and self.filters.options():
             told = f': {number} {what}{"s" if number > 1 else ""}' if number else ''
             yield self.share(count), figure(count, is_sure), *columns * [''], f'left out{told}'
 
-    def functions(self, most):
+    def functions(self, most: int | None) -> Iterator[str]:
         costs = self.counts.costs
         ranked = sorted(filter(costs.own.get, costs.own), key=lambda start: (-costs.own[start], start or 0))
         chosen, hidden = self.split(ranked, lambda start: self.takes(start, self.counts.line_of(start)), costs.own.get, most)
@@ -67,13 +74,13 @@ class Report:
                          f'{POINTER_NAME}: called by several functions, in whose shares with calls it is not'))
         yield from table((('with calls', 11), ('calls', 12), 'function'), rows)
 
-    def loop_place(self, loop):
+    def loop_place(self, loop: Loop) -> str:
         line = self.debug.line_at.get(loop.head)
         source = f', {os.path.basename(line.path)}:{line.number}' if line else ''
         place = f'at {loop.head:08x}{source}' if loop.head >= 0 else 'from label to label, by jumps through registers'
         return f'{self.shown.name_of(loop.routine)} {place}'
 
-    def loops(self):
+    def loops(self) -> Iterator[str]:
         found = [loop for loop in loops(self.shown, self.run) if loop.own and loop.rounds]
         chosen, hidden = self.split(found, lambda loop: self.takes(loop.routine, self.debug.line_at.get(loop.head)),
                                     lambda loop: loop.own, LOOPS)
@@ -82,18 +89,18 @@ class Report:
         if rows:
             yield from table((('rounds', 12), 'loop'), rows)
 
-    def is_sure(self, loop):
+    def is_sure(self, loop: Loop) -> bool:
         return not self.run.unsure or all(self.run.unsure.isdisjoint(self.shown.blocks[first].addresses())
                                           for first in loop.blocks if first >= 0)
 
-    def times(self):
+    def times(self) -> dict[Line, int]:
         """How often each line was reached, in the functions that filters take."""
         if self.filters.function is None:
             return self.counts.lines
         debug = debug_of_routines(self.debug, self.shown.routine_of, self.routines)
         return reached(LineCounts(self.shown, self.run, debug).lines, debug, self.run)
 
-    def lines(self):
+    def lines(self) -> Iterator[str]:
         taken, wanted = Counter(), Counter()
         for address, count in self.run.words.items():
             if count and address in self.debug.line_at:
@@ -110,7 +117,7 @@ class Report:
         else:
             yield from ('', 'There are no line tables: compile it with -g to see its lines.')
 
-    def line_rows(self, lines, taken):
+    def line_rows(self, lines: list[Line], taken: Counter[Line]) -> Iterator[tuple[str, str, str, str]]:
         """The rows of lines, with their texts."""
         self.paths, texts, times = {line.path for line in lines}, {}, self.times()
         for path in filter(os.path.isfile, self.paths):
@@ -122,7 +129,7 @@ class Report:
             yield (self.share(taken[line]), figure(taken[line], sure), figure(times.get(line, 0), sure),
                    f'{place}  {text}'.rstrip())
 
-    def mix(self):
+    def mix(self) -> Iterator[str]:
         counts = InstructionMix(self.shown, self.run).counts(self.takes_word)
         kinds, hidden = self.split([kind for kind, _ in counts.most_common()], counts.get, counts.get, None)
         rows = [(self.share(counts[kind]), figure(counts[kind], not self.run.unsure), kind) for kind in kinds]
@@ -130,7 +137,7 @@ class Report:
         rows += self.left_out(rest, not self.run.unsure, 0, len(hidden), 'kind')
         yield from table(('kind',), rows)
 
-    def all(self, most):
+    def all(self, most: int | None) -> Iterator[str]:
         yield from self.functions(most)
         yield from self.loops()
         yield from self.lines()

@@ -1,10 +1,13 @@
 """What `eel counts`, `visits` and `trace` print of a run, as counts of a program's words, blocks and edges."""
+from __future__ import annotations
+
 import functools
 import re
 from collections import Counter, defaultdict
+from collections.abc import Iterator, Mapping, Set
 
 from .scripting import read_lines, refuse
-from .shown import address_in, is_transfer, is_trap, is_unimplemented
+from .shown import Block, Edge, Shown, Way, address_in, is_transfer, is_trap, is_unimplemented
 
 RUN_HELP = 'what `eel counts` printed of a run of its profile, or `eel visits` of a file that `every` made, with what ' \
            '`eel counts` prints of the same behind it, perhaps'
@@ -12,13 +15,13 @@ TRACE_HELP = RUN_HELP + '; or `eel trace` of one that `trace` made'
 KINDS = {'fall', 'taken', 'untaken', 'call', 'out', 'land', 'case'}
 
 
-def is_trace(name):
+def is_trace(name: str) -> bool:
     """Whether the last line of a file is that of a trace."""
     lines = read_lines(name)
     return bool(lines) and ' ring ' in lines[-1]
 
 
-def counts_of(shown, name):
+def counts_of(shown: Shown, name: str) -> dict[int, int]:
     """How often a run completed each edge of a program, by the lines of a file, which must be of this program."""
     counts, total = {}, None
     for at, line in enumerate(read_lines(name), 1):
@@ -39,7 +42,7 @@ def counts_of(shown, name):
     return counts
 
 
-def visits_of(shown, name, lines):
+def visits_of(shown: Shown, name: str, lines: list[str]) -> dict[int, int]:
     """How often a run carried out the word at each address, by the lines of a file, which must be of this program."""
     visits, total, text = {}, None, shown.text()
     for at, line in enumerate(lines, 1):
@@ -60,7 +63,7 @@ def visits_of(shown, name, lines):
     return visits
 
 
-def ways_of(shown, name, lines, before):
+def ways_of(shown: Shown, name: str, lines: list[str], before: int) -> Counter[Way]:
     """How often a run went each way from word to word, by the lines that `eel counts` printed of a file that `every`
     made; they stand behind others."""
     ways, total, text = Counter(), None, shown.text()
@@ -82,7 +85,7 @@ def ways_of(shown, name, lines, before):
     return ways
 
 
-def trace_of(shown, name):
+def trace_of(shown: Shown, name: str) -> list[int]:
     """The numbers of the last edges that a run completed, the oldest first, by the lines of a file of this program."""
     numbers, total = [], None
     for at, line in enumerate(read_lines(name), 1):
@@ -102,31 +105,39 @@ def trace_of(shown, name):
 
 
 class Run:
-    """How often a run went which way, by the edges of the program."""
+    """How often a run went which way, by the edges of the program: so often it carried out the word at each address, all
+    in all and those of which it isn't sure; came into each block; completed each edge; and began."""
+    shown: Shown
+    words: dict[int, int]
+    total: int
+    unsure: Set[int]
+    blocks: dict[int, int]
+    edges: dict[int, int]
+    starts: int
 
-    def edge(self, edge):
+    def edge(self, edge: Edge) -> int:
         return self.edges.get(edge.number, 0)
 
-    def times(self, address):
+    def times(self, address: int) -> int:
         return self.words.get(address, 0)
 
-    def jumps(self):
+    def jumps(self) -> Iterator[tuple[int, int]]:
         """Each jump through a register that was made, and how often."""
         for edge in self.shown.edges:
             if edge.kind == 'out' and self.edge(edge):
                 yield self.shown.blocks[edge.source].last(), self.edge(edge)
 
-    def entries(self, address):
+    def entries(self, address: int) -> Mapping[int, int] | None:
         """How often control came to a word in the midst of a block, by the words before it, or None where that isn't known."""
         return None
 
-    def landings(self):
+    def landings(self) -> Iterator[tuple[int, int]]:
         """Each place at which control landed from such a jump, and how often."""
         for edge in self.shown.edges:
             if edge.kind == 'land' and self.edge(edge):
                 yield edge.target, self.edge(edge)
 
-    def is_known(self, edge):
+    def is_known(self, edge: Edge) -> bool:
         return True
 
 
@@ -139,7 +150,7 @@ class Executions(Run):
     words of such blocks are unsure.
     """
 
-    def __init__(self, shown, counts, stands=None):
+    def __init__(self, shown: Shown, counts: dict[int, int], stands: int | None = None) -> None:
         self.shown, self.edges, self.unsure, entered = shown, counts, set(), shown.block_of(shown.entry)
         self.blocks = {block.first: sum(map(self.edge, block.into)) for block in shown.blocks.values()}
         self.starts = max(1, sum(map(self.edge, entered.out)) - self.blocks[entered.first])  # more of merged counts
@@ -159,7 +170,7 @@ class Executions(Run):
                           if is_unimplemented(shown.word(address)))
         self.total = sum(self.words.values())
 
-    def lands_within(self, block):
+    def lands_within(self, block: Block) -> bool:
         """Whether control may have come to a block by a jump behind its first word: by a switch of which a case is there;
         or more often than it came back there from a call, or to what is neither that nor a routine's begin."""
         if any(edge.kind == 'case' and self.edge(edge) for edge in block.into) \
@@ -171,7 +182,7 @@ class Executions(Run):
         calls = self.shown.block_of(self.shown.call_before(block.first) or -1)
         return calls is None or landed > sum(self.edge(edge) for edge in calls.out)
 
-    def end_in(self, block, stands):
+    def end_in(self, block: Block, stands: int | None) -> None:
         """What stands behind the place at which a run ended wasn't run: the `ta` of a block that wasn't left, or where
         it is said to have stood."""
         ended = self.blocks[block.first] - sum(map(self.edge, block.out))
@@ -193,7 +204,7 @@ class Visits(Run):
     often edges were completed is worked out from it, and isn't known of all."""
     unsure = frozenset()
 
-    def __init__(self, shown, visits):
+    def __init__(self, shown: Shown, visits: dict[int, int]) -> None:
         self.shown = shown
         self.words = dict.fromkeys((address for block in shown.blocks.values() for address in block.addresses()), 0)
         self.words.update(visits)
@@ -204,13 +215,13 @@ class Visits(Run):
             if count := completed.pop(edge.way(), 0):
                 self.edges[edge.number] = count
 
-    def find_ways(self, shown):
+    def find_ways(self, shown: Shown) -> None:
         self.blocks = {first: self.words[first] for first in shown.blocks}
         for first in filter(lambda first: is_unimplemented(shown.word(first)), shown.blocks):
             self.blocks[first] = self.words.get(first + 4, 0)
         self.ways = solutions(list(self.equations(shown)))
 
-    def equations(self, shown):
+    def equations(self, shown: Shown) -> Iterator[tuple[int, set[Way]]]:
         """Sums of ways that are known: what comes into a block and leaves it, and what runs a delay slot. A landing is
         taken to be one at a routine, behind a call, or where nothing else leads."""
         slots = defaultdict(set)
@@ -233,7 +244,7 @@ class Visits(Run):
                 yield self.blocks[block.first] - (shown.entry == block.first), into
                 yield self.words[block.last()], out
 
-    def is_known(self, edge):
+    def is_known(self, edge: Edge) -> bool:
         return edge.way() in self.ways
 
 
@@ -241,11 +252,11 @@ class Exact(Visits):
     """The same, with the ways from word to word, which were counted, too: so edges are as exact as words. Of a switch
     that only `show` knows, since it sees whole blocks, a case has what landed at it, unless others lead there."""
 
-    def __init__(self, shown, visits, ways):
+    def __init__(self, shown: Shown, visits: dict[int, int], ways: Counter[Way]) -> None:
         self.counted = ways
         super().__init__(shown, visits)
 
-    def find_ways(self, shown):
+    def find_ways(self, shown: Shown) -> None:
         arrived, left, within = Counter(), Counter(), Counter()
         for (kind, source, target), count in self.counted.items():
             arrived[target] += count
@@ -264,17 +275,17 @@ class Exact(Visits):
                      for edge in shown.edges if edge.kind != 'case'}
         self.find_cases(shown, last)
 
-    def jumps(self):
+    def jumps(self) -> Iterator[tuple[int, int]]:
         return ((source, count) for (kind, source, _), count in self.counted.items() if kind == 'out')
 
-    def landings(self):
+    def landings(self) -> Iterator[tuple[int, int]]:
         return ((target, count) for (kind, _, target), count in self.counted.items() if kind == 'land')
 
-    def entries(self, address):
+    def entries(self, address: int) -> Mapping[int, int]:
         return self.arrivals.get(address, {})
 
     @functools.cached_property
-    def arrivals(self):
+    def arrivals(self) -> dict[int, Counter[int]]:
         """How often control came to the routines that begin within a block from each word before."""
         found = defaultdict(Counter)
         for (kind, source, target), count in self.counted.items():
@@ -282,7 +293,7 @@ class Exact(Visits):
                 found[target][source] += count
         return found
 
-    def find_cases(self, shown, last):
+    def find_cases(self, shown: Shown, last: dict[int, int]) -> None:
         """A case has what landed at its block, if it is that of one switch alone, and if all of them come to what went
         out at the jump."""
         cases = defaultdict(set)
@@ -305,7 +316,7 @@ class Exact(Visits):
                 self.ways['out', shown.block_of(jump).first, None] = 0
 
 
-def solutions(equations):
+def solutions(equations: list[tuple[int, set[Way]]]) -> dict[Way, int]:
     """What sums of numbers that aren't negative determine, step by step: the last unknown number of a sum, and all
     unknown numbers of one that is 0."""
     sums, unknown, holding, found = [], [], defaultdict(list), {}
@@ -332,18 +343,18 @@ def solutions(equations):
 class Trace(Run):
     """The last edges that a run completed, by the places at which each stands in their order, from 1 on."""
 
-    def __init__(self, shown, numbers):
+    def __init__(self, shown: Shown, numbers: list[int]) -> None:
         self.places, self.length = defaultdict(list), len(numbers)
         for place, number in enumerate(numbers, 1):
             self.places[number].append(place)
         ends = [end for number in numbers for end in (shown.edges[number].source, shown.edges[number].target)]
         self.blocks = Counter(end for end in ends if end is not None)
 
-    def edge(self, edge):
+    def edge(self, edge: Edge) -> int:
         return len(self.places.get(edge.number, []))
 
 
-def run_of(shown, name, stands=None):
+def run_of(shown: Shown, name: str, stands: int | None = None) -> Run:
     """What a file tells of a run: the visits of all words, and the ways from word to word, perhaps; or the counts of
     edges, where it may be said at which instruction the run stands. Routines are split by it."""
     if is_trace(name):

@@ -4,17 +4,22 @@ The program must be the original that was edited, with debug information (gcc -g
 prints them: `count: line: text`, `#####` where never, and `-` where there is no code. A program without line tables
 gets its functions alone. By visits, calls and branches are worked out from how often instructions ran.
 """
+from __future__ import annotations
+
 import functools
 import os
+from argparse import Namespace
 from collections import Counter, defaultdict
+from collections.abc import Iterable, Iterator
 from dataclasses import dataclass
+from typing import Any
 
 from .call_costs import CallCosts
 from .callgrind import Callgrind
-from .debug_lines import OPTIMISED, ROOT_HELP, DebugLines, Line, tell_missing
+from .debug_lines import OPTIMISED, ROOT_HELP, DebugLines, Function, Line, tell_missing
 from .folded import Folded
 from .line_counts import LineCounts
-from .runs import RUN_HELP, run_of
+from .runs import RUN_HELP, Run, run_of
 from .scripting import Parser, note, print_lines, read_lines, refuse
 from .shown import NAMES_HELP, Shown, figure
 
@@ -25,7 +30,7 @@ INLINED_HELP = 'with --callgrind: tell copies by inlining as functions, which ar
 class Called:
     """A function or routine, where it stands, and how often it was called."""
     name: str
-    line: object
+    line: Line | None
     calls: int
     is_known: bool = True  # else so often its first instruction ran
     symbol: str = ''  # if that is another name
@@ -35,21 +40,21 @@ class Called:
 class SourceCounts:
     """How often a run reached lines, functions and branches."""
 
-    def __init__(self, shown, run, debug):
+    def __init__(self, shown: Shown, run: Run, debug: DebugLines) -> None:
         self.shown, self.debug, self.run = shown, debug, run
         self.costs = CallCosts(shown, run)
         counted = LineCounts(shown, run, debug)
         self.lines, self.unsure = reached(counted.lines, debug, run), counted.unsure
 
     @functools.cached_property
-    def declared(self):
+    def declared(self) -> dict[int, Line]:
         return {start: function.line for function in self.debug.functions.values() for start in function.starts}
 
-    def line_of(self, start):
+    def line_of(self, start: int | None) -> Line | None:
         """Where a routine is declared, or begins."""
         return self.declared.get(start) or self.debug.line_at.get(start)
 
-    def entries(self, address, words):
+    def entries(self, address: int, words: set[int]) -> int:
         """How often an inlined copy was entered: by the edges that lead to its entry from words that aren't its own."""
         block = self.shown.blocks.get(address)
         if block is None:
@@ -57,30 +62,30 @@ class SourceCounts:
         return sum(self.run.edge(edge) for edge in block.into
                    if edge.source is None or self.shown.blocks[edge.source].last() not in words)
 
-    def calls(self, function):
+    def calls(self, function: Function) -> int:
         copies = sum(self.entries(copy.entry, copy.words) for copy in function.copies)
         calls = (self.costs.calls_of(start) if start in self.shown.routines else None for start in function.starts)
         return copies + sum(self.run.times(start) if count is None else count for start, count in zip(function.starts, calls))
 
     @functools.cached_property
-    def functions(self):
+    def functions(self) -> list[Called]:
         """The functions of the debug information, and the routines that it doesn't know, which stand alone."""
         functions = [Called(function.name, function.line, self.calls(function), symbol=function.symbol, column=function.column)
                      for function in self.debug.functions.values()]
         return functions + list(map(self.routine, self.alone))
 
     @functools.cached_property
-    def alone(self):
+    def alone(self) -> list[int]:
         """The routines that the debug information doesn't know."""
         known = {start for function in self.debug.functions.values() for start in function.starts}
         code = self.shown.code()
         return [start for start in self.shown.starts if start not in known and self.shown.block_of(start).first in code]
 
-    def routine(self, start):
+    def routine(self, start: int | None) -> Called:
         calls, line = self.costs.calls_of(start), self.debug.line_at.get(start)
         return Called(self.shown.name_of(start), line, self.run.times(start) if calls is None else calls, calls is not None)
 
-    def sources(self):
+    def sources(self) -> dict[str, dict[int, int]]:
         """The counts of each source, by numbers of lines."""
         sources = defaultdict(dict)
         for line, count in sorted(self.lines.items(), key=lambda item: (item[0].path, item[0].number)):
@@ -88,7 +93,7 @@ class SourceCounts:
         return sources
 
 
-def reached(lines, debug, run):
+def reached(lines: dict[Line, int], debug: DebugLines, run: Run) -> dict[Line, int]:
     """All lines; where a function's code has none of the line that names it, that one is reached by its calls."""
     named = {function.line for function in debug.functions.values()}
     known = {(line, debug.body_at.get(address)) for address, line in debug.line_at.items() if line in named}
@@ -100,12 +105,12 @@ def reached(lines, debug, run):
     return lines
 
 
-def is_newer(path, program):
+def is_newer(path: str, program: str) -> bool:
     """Whether a source was changed since the program was built."""
     return os.path.isfile(path) and os.path.getmtime(path) > os.path.getmtime(program)
 
 
-def tell_limits(counts, program, paths):
+def tell_limits(counts: SourceCounts, program: str, paths: Iterable[str]) -> None:
     """Says once what may be wrong with lines, and which of the sources aren't there whose lines are printed."""
     for path in filter(lambda path: is_newer(path, program), counts.sources()):
         note(f'{path} is newer than {program}: its lines may have moved')
@@ -114,7 +119,7 @@ def tell_limits(counts, program, paths):
         note(f'{program} {OPTIMISED}')
 
 
-def gcov_lines(counts):
+def gcov_lines(counts: SourceCounts) -> Iterator[str]:
     for path, counted in counts.sources().items():
         yield f'{"-":>9}:{0:>5}:Source:{path}'
         texts = read_lines(path) if os.path.isfile(path) else []
@@ -124,13 +129,13 @@ def gcov_lines(counts):
             yield f'{count:>9}:{number:>5}:{texts[number - 1] if number <= len(texts) else "/*EOF*/"}'
 
 
-def function_lines(counts):
+def function_lines(counts: SourceCounts) -> Iterator[str]:
     for function in sorted(counts.functions, key=lambda function: -function.calls):
         calls = function.calls or '#####' if function.is_known else '?'
         yield f'{calls:>9}: function {function.name}'
 
 
-def branch_ways(counts):
+def branch_ways(counts: SourceCounts) -> Iterator[tuple[Line, Counter[Any]]]:
     """The branches with a condition and the known switches, each with its line and how often each way was gone, by its kind
     or its case, where that is known."""
     for block in counts.shown.blocks.values():
@@ -145,14 +150,14 @@ def branch_ways(counts):
             yield line, ways
 
 
-def lcov_functions(functions):
+def lcov_functions(functions: list[Called]) -> Iterator[str]:
     yield from (f'FN:{function.line.number},{function.name}' for function in functions)
     yield from (f'FNDA:{function.calls},{function.name}' for function in functions)
     yield f'FNF:{len(functions)}'
     yield f'FNH:{sum(function.calls > 0 for function in functions)}'
 
 
-def lcov_branches(found, path):
+def lcov_branches(found: dict[Line, list[list[int]]], path: str) -> Iterator[str]:
     ways = []
     for line in sorted((line for line in found if line.path == path), key=lambda line: line.number):
         for block, counts in enumerate(found[line]):
@@ -163,7 +168,7 @@ def lcov_branches(found, path):
     yield f'BRH:{sum(count > 0 for count in ways)}'
 
 
-def lcov_lines(counts):
+def lcov_lines(counts: SourceCounts) -> Iterator[str]:
     """A record of each source, as `geninfo` of lcov writes them."""
     found = defaultdict(list)
     for line, ways in branch_ways(counts):
@@ -180,7 +185,7 @@ def lcov_lines(counts):
         yield 'end_of_record'
 
 
-def printed(shown, run, words, debug=None):
+def printed(shown: Shown, run: Run, words: Namespace, debug: DebugLines | None = None) -> Iterator[str]:
     """The lines for a run."""
     counts = SourceCounts(shown, run, debug or DebugLines(shown, words.source_root))
     if words.callgrind:
@@ -196,7 +201,7 @@ def printed(shown, run, words, debug=None):
     return lcov_lines(counts) if words.lcov else gcov_lines(counts)
 
 
-def parsed(args=None):
+def parsed(args: list[str] | None = None) -> Namespace:
     parser = Parser(__doc__)
     parser.add_argument('file', metavar='FILE', help='the program')
     parser.add_argument('counts', metavar='COUNTS', help=RUN_HELP)
@@ -213,7 +218,7 @@ def parsed(args=None):
     return words
 
 
-def main():
+def main() -> None:
     words = parsed()
     shown = Shown(words.file, words.names)
     print_lines(printed(shown, run_of(shown, words.counts), words))

@@ -1,5 +1,8 @@
 """The text of instructions as assemblers write it: `cmp`, `mov`, `ret` and the like in place of their long spelling."""
+from __future__ import annotations
+
 import re
+from collections.abc import Callable
 
 NAMES = {'%o6': '%sp', '%i6': '%fp'}
 BRANCH = re.compile(r'b[a-z]*(,a)? 0x')
@@ -7,7 +10,7 @@ OPERANDS = re.compile(r'\[[^]]*\]|[^,]+')
 NO_REGISTER = ('%g0', '0')
 
 
-def address(first, second):
+def address(first: str, second: str) -> str:
     """The sum of two operands."""
     if second in NO_REGISTER:
         return first
@@ -16,21 +19,21 @@ def address(first, second):
     return f'{first}{"" if second.startswith("-") else "+"}{second}'
 
 
-def operand(text):
+def operand(text: str) -> str:
     """One operand: a register by its usual name, or an address as a sum."""
     if text.startswith('['):
         return f'[{address(*map(operand, text[1:-1].split(",")))}]'
     return NAMES.get(text, text)
 
 
-def jump(first, second, link):
+def jump(first: str, second: str, link: str) -> str:
     if link == '%g0' and second == '8' and first in ('%i7', '%o7'):
         return 'ret' if first == '%i7' else 'retl'
     name = {'%g0': 'jmp', '%o7': 'call'}.get(link)
     return f'{name} {address(first, second)}' if name else f'jmpl {address(first, second)},{link}'
 
 
-def short(name, words):
+def short(name: str, words: list[str]) -> str | None:
     """The short spelling of an instruction that has one, or None."""
     match name, words:
         case 'sethi', ['0', '%g0']:
@@ -54,7 +57,7 @@ def short(name, words):
     return None
 
 
-def spelled(text, name_of):
+def spelled(text: str, name_of: Callable[[int], str | None]) -> str:
     """The usual spelling of an instruction that `eel list` prints; `name_of` answers a routine's name at an address."""
     name, _, rest = text.partition(' ')
     if name == 'call' or BRANCH.match(text):
@@ -67,7 +70,7 @@ def spelled(text, name_of):
 LONG_NAMES = {short: long for long, short in NAMES.items()}
 
 
-def long_operand(text):
+def long_operand(text: str) -> str:
     """One operand as `eel list` writes it: an address has two parts."""
     text = text.strip()
     if text.startswith('['):
@@ -78,7 +81,7 @@ def long_operand(text):
     return LONG_NAMES.get(text, text)
 
 
-def parts(text):
+def parts(text: str) -> list[str]:
     """The two operands of a sum, the second %g0 where there is one alone."""
     found = re.fullmatch(r'(%\w+)(?:([+-])(.+))?|([^%+]+)', text.replace(' ', ''))
     if not found:
@@ -90,11 +93,11 @@ def parts(text):
     return [LONG_NAMES.get(first, first), f'-{second}' if sign == '-' else second]
 
 
-def is_number(text):
+def is_number(text: str) -> bool:
     return re.fullmatch(r'-?(0x[0-9a-fA-F]+|\d+)', text) is not None
 
 
-def long_text(text, address_of):
+def long_text(text: str, address_of: Callable[[str], int | None]) -> str:
     """An instruction in the spelling of `eel list`, from that or from the usual one; `address_of` answers the address of
     a routine's name, or None."""
     name, _, rest = text.strip().partition(' ')
