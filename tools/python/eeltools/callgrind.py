@@ -91,7 +91,7 @@ class Callgrind:
     def has_parts(self, start: int | None) -> bool:
         """Whether a routine has lines of several files, which callgrind_annotate takes for several functions."""
         own = self.routines.get(start)
-        return own and any(self.path_at(address, own) != path_of(own.line)
+        return own is not None and any(self.path_at(address, own) != path_of(own.line)
                            for address, body in self.bodies.items() if body is own)
 
     def path_at(self, address: int, body: Body) -> str:

@@ -158,7 +158,7 @@ class DebugLines:
         self.missing.append(name)
         return []
 
-    def add_rows(self, unit: Unit, rows: list[Row], end: int, is_unoptimised: bool) -> None:
+    def add_rows(self, unit: Unit, rows: list[dwarf.Row], end: int, is_unoptimised: bool) -> None:
         """Each word has the last row at or before its address; line 0 says that there is none. Where nothing was optimised
         no statement went elsewhere, and marks tell of lines without words alone."""
         paths = {number: self.path(unit, number) for number in {row.file for row in rows}}

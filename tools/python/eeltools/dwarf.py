@@ -138,7 +138,7 @@ class Reader:
         self.at = end + 1
         return found.decode('utf-8', 'replace')
 
-    def form(self, form: int, constant: int | None = None) -> int | bytes | None:
+    def form(self, form: int, constant: int | None = None) -> Any:
         """The value of an attribute as it is written; a block's is its bytes."""
         if form in FIXED:
             return constant if form == 0x21 else True if form == 0x19 else self.number(FIXED[form])
@@ -241,7 +241,7 @@ class LineTable:
             self.folders = [''] + list(iter(read.string, ''))
             self.files = [('?', 0)] + [(name, self.old_file()) for name in iter(read.string, '')]
 
-    def old_file(self) -> tuple[str, int]:
+    def old_file(self) -> int:
         folder, _, _ = (self.read.uleb() for _ in range(3))
         return folder
 

@@ -114,7 +114,7 @@ def stray_jump(shown: Shown, run: Run) -> int | None:
     return left[0] if len(left) == 1 else None
 
 
-def entered_first(shown: Shown, run: Run) -> set[int | None]:
+def entered_first(shown: Shown, run: Run) -> set[int]:
     """The routines that a run is still in, from the first one on up to a call through a register."""
     back, left = Counter(), {}
     for target, count in run.landings():

@@ -14,7 +14,7 @@ from __future__ import annotations
 import math
 from argparse import Namespace
 from collections import Counter, defaultdict
-from collections.abc import Iterator
+from collections.abc import Iterable, Iterator
 
 from .call_costs import POINTER, CallCosts
 from .runs import TRACE_HELP, Run, Trace, is_trace, run_of, trace_of
@@ -92,7 +92,7 @@ class Anything(Run):
     def edge(self, edge: Edge) -> bool:
         return edge.kind not in ('land', 'out')
 
-    def jumps(self) -> Iterator[tuple[int, int]]:
+    def jumps(self) -> Iterable[tuple[int, int]]:
         return ()
 
     landings = jumps

@@ -80,7 +80,7 @@ class Tables(threading.Thread):
 
     def __init__(self, words: argparse.Namespace) -> None:
         super().__init__(daemon=True)
-        self.words, self.ended, self.own, self.debug, self.has_own = words, None, None, None, threading.Event()
+        self.words, self.has_own, self.ended = words, threading.Event(), None
 
     def run(self) -> None:
         try:

@@ -16,7 +16,7 @@ from .report import Report
 VERSION = 1  # is raised with each change of the schema
 
 
-def hexadecimal(address: int) -> str | None:
+def hexadecimal(address: int | None) -> str | None:
     """An address, or None for what has none, such as all that lies outside of the text."""
     return None if address is None or address < 0 else f'0x{address:08x}'
 

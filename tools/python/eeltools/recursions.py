@@ -132,7 +132,7 @@ class Core:
             more = [cost + number for cost, number in zip(costs, product(self.rows, found))]
             part = sum(map(mul, left, more))
             more = [number - part * own for number, own in zip(more, right)]
-            if max(abs(number - before) for number, before in zip(more, found)) <= CLOSE * max(map(abs, more)):
+            if max(abs(number - before) for number, before in zip(more, found)) <= CLOSE * max(abs(number) for number in more):
                 return more
             found = more
         return None
@@ -146,7 +146,7 @@ class Mixed(dict):
         self.core, self.right, self.left, self.ends = core, right, left, ends
 
     def __missing__(self, pair: tuple[Any, Any]) -> float:
-        at, to = map(self.core.places.get, pair)
+        at, to = (self.core.places[node] for node in pair)
         rows, lasting, goes_on = self.core.rows, self.right[at] * self.left[to], 1 - self.ends
         found = lasting * (1 / self.ends - 1 - goes_on) + rows[at].get(to, 0)
         if at == to:

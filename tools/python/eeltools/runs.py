@@ -4,7 +4,7 @@ from __future__ import annotations
 import functools
 import re
 from collections import Counter, defaultdict
-from collections.abc import Iterator, Mapping, Set
+from collections.abc import Iterable, Iterator, Mapping, Set
 
 from .scripting import read_lines, refuse
 from .shown import Block, Edge, Shown, Way, address_in, is_transfer, is_trap, is_unimplemented
@@ -110,7 +110,7 @@ class Run:
     shown: Shown
     words: dict[int, int]
     total: int
-    unsure: Set[int]
+    unsure: Set[int]  # is empty but for counts of edges
     blocks: dict[int, int]
     edges: dict[int, int]
     starts: int
@@ -121,7 +121,7 @@ class Run:
     def times(self, address: int) -> int:
         return self.words.get(address, 0)
 
-    def jumps(self) -> Iterator[tuple[int, int]]:
+    def jumps(self) -> Iterable[tuple[int, int]]:
         """Each jump through a register that was made, and how often."""
         for edge in self.shown.edges:
             if edge.kind == 'out' and self.edge(edge):
@@ -131,7 +131,7 @@ class Run:
         """How often control came to a word in the midst of a block, by the words before it, or None where that isn't known."""
         return None
 
-    def landings(self) -> Iterator[tuple[int, int]]:
+    def landings(self) -> Iterable[tuple[int, int]]:
         """Each place at which control landed from such a jump, and how often."""
         for edge in self.shown.edges:
             if edge.kind == 'land' and self.edge(edge):

@@ -56,8 +56,8 @@ def eel(*words: str) -> list[str]:
 
 def explained(name: str, code: str) -> str:
     """What `eel --faults` says of a file's fault, on one line; what is for another processor has that named."""
-    machine = read_file(name)[18:20]
-    machine = int.from_bytes(machine, 'big' if read_file(name)[5:6] == b'\2' else 'little')
+    file = read_file(name)
+    machine = int.from_bytes(file[18:20], 'big' if file[5:6] == b'\2' else 'little')
     if code in ('3', '4', '7') and machine in OTHER_MACHINES:
         return f'it is for another processor, {OTHER_MACHINES[machine]}; build it for SPARC V8'
     rows, left, right = call_eel('--faults').stdout.decode().splitlines(), [], []
@@ -294,9 +294,9 @@ class Shown:
 
     def name_of(self, start: int | None) -> str:
         """The name of a routine, and of what stands before the first one."""
-        return f'{self.routines.get(start, "?")}{" (merged)" if start in self.merged else ""}'
+        return f'{"?" if start is None else self.routines.get(start, "?")}{" (merged)" if start in self.merged else ""}'
 
-    def place(self, address: int) -> str:
+    def place(self, address: int | None) -> str:
         """An address with the routine that holds it and how far behind its beginning that is."""
         if address is None:
             return 'x'
@@ -337,7 +337,7 @@ class Shown:
         return None if offset is None else int.from_bytes(self.file[offset:offset + 4], 'big')
 
     @functools.cached_property
-    def words(self) -> array.array.array[int][int]:
+    def words(self) -> array.array[int]:
         """The words of the text, as far as the file has them."""
         offset = self.offset_of(self.firsts[0])
         end = next((end for start, end, _ in self.loaded if start <= self.firsts[0] < end), self.firsts[0])
