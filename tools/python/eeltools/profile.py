@@ -276,10 +276,10 @@ def parsed() -> argparse.Namespace:
     kind = parser.add_mutually_exclusive_group()
     kind.add_argument('--every', action='store_true', help='count each instruction by itself, as is done anyway')
     kind.add_argument('--edges', action='store_true',
-                      help='count as few edges as can be: up to a tenth fewer steps, and figures that may be off say '
+                      help='count as few edges as can be: mostly fewer steps, and figures that may be off say '
                            '`about`')
     kind.add_argument('--weights', action='store_true',
-                      help='the same twice, with counters by what the first run counted: still fewer steps')
+                      help='the same twice, with counters by what the first run counted: fewer steps in the second run')
     parser.add_argument('--exit-status', action='store_true', help='end with the status of the program, where it exited')
     parser.add_argument('--all', action='store_true', help='print all functions')
     add_options(parser)
