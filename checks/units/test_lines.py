@@ -64,26 +64,6 @@ class Compiled(unittest.TestCase):
         lines = LineCounts(own, run, DebugLines(own)).lines
         self.assertEqual({line.number: count for line, count in lines.items() if line.number in BY_GCOV}, BY_GCOV)
 
-    def test_damaged_tables_are_refused_by_a_line(self):
-        name = compiled('-O2', '-gdwarf-5')
-        with open(name, 'rb') as opened:
-            file = bytearray(opened.read())
-        parts = [row for section, row in dwarf.Elf(bytes(file)).headers.items() if section.startswith('.debug')]
-        ended, own = 0, Shown(name)
-        for number in range(400):
-            chosen, damaged = random.Random(number), bytearray(file)
-            for _ in range(chosen.randrange(1, 4)):
-                row = chosen.choice(parts)
-                damaged[row[4] + chosen.randrange(row[5])] = chosen.choice([0, 1, 0x7f, 0x80, 0xff, chosen.randrange(256)])
-            own.elf = dwarf.Elf(bytes(damaged))
-            try:
-                with contextlib.redirect_stderr(io.StringIO()):
-                    DebugLines(own)
-            except Refused as refused:
-                self.assertEqual(refused.status, 65)
-                ended += 1
-        self.assertGreater(ended, 20)
-
 
 class Built(unittest.TestCase):
     """A program that stands here with its debug information, so that no compiler is needed: lines.c has its source."""
@@ -115,10 +95,28 @@ class Built(unittest.TestCase):
         lines = LineCounts(self.own, run, self.debug).lines
         self.assertEqual({line.number: count for line, count in lines.items() if line.number in self.BY_HAND}, self.BY_HAND)
 
+    def test_damaged_tables_are_refused_by_a_line(self):
+        file = bytearray(self.own.file)
+        parts = [row for section, row in dwarf.Elf(bytes(file)).headers.items() if section.startswith('.debug')]
+        ended = 0
+        for number in range(400):
+            chosen, damaged = random.Random(number), bytearray(file)
+            for _ in range(chosen.randrange(1, 4)):
+                row = chosen.choice(parts)
+                damaged[row[4] + chosen.randrange(row[5])] = chosen.choice([0, 1, 0x7f, 0x80, 0xff, chosen.randrange(256)])
+            self.own.elf = dwarf.Elf(bytes(damaged))
+            try:
+                with contextlib.redirect_stderr(io.StringIO()):
+                    DebugLines(self.own)
+            except Refused as refused:
+                self.assertEqual(refused.status, 65)
+                ended += 1
+        self.assertGreater(ended, 20)
+
 
 class Tables(unittest.TestCase):
     def test_functions_of_a_large_table_are_read_soon(self):
-        names = [(f'a_function_of_number_{number}', 0x10054) for number in range(20000)]
+        names = [(f'a_function_of_number_{number}', 0x10054) for number in range(60_000)]
         joined = b'\0' + b''.join(name.encode() + b'\0' for name, _ in names)
         at, symbols = 1, bytearray()
         for name, address in names:
@@ -129,7 +127,7 @@ class Tables(unittest.TestCase):
         elf.rows, elf.section, elf.contents = [None], lambda _: symbols, lambda _: joined
         started = time.process_time()
         self.assertEqual([name for _, name in elf.functions()], [name for name, _ in names])
-        self.assertLess(time.process_time() - started, 1)
+        self.assertLess(time.process_time() - started, 2)
 
     def test_producers_that_tell_no_level_did_not_optimise(self):
         self.assertTrue(is_plain('GNU C17 12.2.0 -m32 -mcpu=v8 -g'))
