@@ -45,7 +45,7 @@ FOR_A_CRATE = 4_000_000_000  # bytes of memory
 MEANWHILE = 120  # seconds after which a crate is told of that isn't done
 
 # The kit with which all of this was last proved; what a build takes of one by its place, and which options it gives.
-KIT_KNOWN = 'rattle-kit-13b logic dac8208d650f15bf'
+KIT_KNOWN = 'rattle-kit-13f logic dac8208d650f15bf'
 KIT_PARTS = ['WHAT', 'rlibs/std.rlib', 'bin/rattle', 'bin/rattle-link', 'toolchain', 'logic_built',
              'rattle/logic/antt-project.json', 'c/libos_c.a', 'c/liblibc_c.a']
 KIT_OPTIONS = ['--crate-name', '--extern', '--links', '--antt-project', '--logic-built', '--jobs', '--statements',
