@@ -20,7 +20,8 @@ unfoldable pub use Rattle.cfg_walk.specs.Walk.{walk}
 pub use Rattle.count_rebuild.specs.Counts.{cell_counts, counter_value, IsFlowTo, StandsAt}
 pub use Rattle.count_rebuild.specs.Noted.{has_cell, noted_graph, ends_at, is_node as is_noted, lies_at, no_edge, edge_at, IsProfile}
 pub use Rattle.edit_core.proofs.Originals.{image_text}
-pub use Rattle.edit_core.proofs.Trails.{ending, few_visits, longer, over_or_not, stays, from_on, own_few, trail_stays, going, none_over, own_live, quiet_more, visit_more}
+pub use Rattle.edit_core.proofs.Trails.{few_visits, longer, over_or_not, stays, from_on, own_few, trail_stays, none_over, own_live, quiet_more, visit_more}
+pub use Rattle.two_runs.proofs.Follows.{ending, going}
 pub use Rattle.edit_core.proofs.Views.{view_graph}
 pub use Rattle.edit_core.specs.Faithful.{cell_noted, HasGraph, note_edge, note_edges, tool_number}
 pub use Rattle.edit_core.specs.RunsAlike.{AreRunsAlike, edit_of, visits_by, IsStop, TellsStep, node_behind, IsAnswered}
