@@ -1,5 +1,5 @@
 -- What is rebuilt from the dump of a run, wherever it is stopped, is how often the original's run completes each edge.
-use Rattle.exact_counts.proofs.Common.{pages_of, IsUntouched, ◌≡◌, ℕ, suc, ◌-◌, ◌<◌, true, List, length, None, refl, ap, sym, ◌∙◌, arith, pos, lt-ltb, fault, image_of, Notes, State, start_of, IsFlow, blocks_of, entered_of, cut, Plan, links_of, executions, Edit, edit_of, visits_by, image_text, few_visits, view_graph, noted_graph, ◌≢◌, ◌^◌, inl, inr, false, slice_index, Option, Some, ℤ, false≢true, Ending, run, has_cell, leb-true, AreBytes, holding_of, IsStop, TellsStep, node_behind, HasGraph, tool_number, is_counter, CountsOffTree, original_graph, counter_limit, IsExact, IsProfiled, CountsAreExact, MayRefuse, length-map-range_with_len, node_at, AgreeOn, IsFlowTo, StandsAt, cell_counts, IsProfile, nat_tests}
+use Rattle.exact_counts.proofs.Common.{pages_of, IsUntouched, ◌≡◌, ℕ, suc, ◌-◌, ◌<◌, List, length, None, refl, ap, sym, ◌∙◌, arith, pos, lt-ltb, image_of, Notes, State, start_of, IsFlow, blocks_of, entered_of, cut, Plan, links_of, executions, Edit, edit_of, visits_by, image_text, few_visits, view_graph, noted_graph, ◌^◌, inl, inr, slice_index, Option, Some, ℤ, false≢true, Ending, run, has_cell, leb-true, AreBytes, holding_of, IsStop, TellsStep, node_behind, HasGraph, tool_number, is_counter, CountsOffTree, original_graph, counter_limit, IsExact, IsProfiled, CountsAreExact, MayRefuse, length-map-range_with_len, node_at, AgreeOn, IsFlowTo, StandsAt, cell_counts, IsProfile, nat_tests}
 use Rattle.elf32_sparc.proofs.Accepted.{accepted}
 use Rattle.v8_process.specs.Arguments.{AreArguments}
 use Rattle.v8_process.proofs.Arguments.{arguments_fit}
@@ -9,14 +9,13 @@ use Rattle.walk_counts.specs.Counts.{first_node}
 use Rattle.walk_counts.proofs.Files.{begins, entry_is, executions_of_files_are_flows}
 use Rattle.edit_core.specs.Written.{given_of}
 use Rattle.exact_counts.proofs.Noted.{has_cell_is, AreNotesOf, flow_alike, graphs_alike, tree_noted, edge_count, edge_is}
-use Rattle.tool_kit.specs.declared.edge_ref.ToolKind.TheVariants as tools
 use Rattle.dump_file.specs.Dump.{Dump}
 use Rattle.count_rebuild.specs.declared.fault.CountFault.{CountFault}
 use Rattle.count_rebuild.specs.declared.fault.CountFault.TheVariants as faults
 use Rattle.count_rebuild.specs.Code.{IsRefused}
 use Rattle.exact_counts.specs.Stops.{dump_at}
 use Rattle.exact_counts.proofs.Gone.{executions_are_few}
-use Rattle.exact_counts.proofs.Counters.{cells_count, counter, counter_cell, limit_few, none_or_counter, small_rest}
+use Rattle.exact_counts.proofs.Counters.{cells_count, counter_cell, limit_few, none_or_counter, small_rest}
 
 pub begins_live : (file : List ℕ) (args : List (List ℕ)) (input : List ℕ) → (start_of file args input).ending ≡ None
 unfolding start_of
