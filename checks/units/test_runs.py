@@ -94,6 +94,18 @@ class Names(unittest.TestCase):
             self.assertEqual(+costs.own, {0x10054: 6, 0x10078: 3})
             self.assertEqual(costs.calls_of(0x10078), calls)
 
+    def test_behind_nops_have_their_instructions_and_calls(self):
+        end = form3(2, 0, JMPL, 15, ('i', 8))
+        for routine in [form3(2, 14, SAVE, 14, ('i', -96)), RET, ALONE], [form3(2, 3, OR, 0, ('i', 3)), end, NOP]:
+            self.words[6:] = [end, NOP, NOP, *routine]
+            for counted in 'every', 'edges':
+                own = Shown(shown(self.words).name, given.written('00010054 T start\n00010078 T pointed\n'))
+                self.assertEqual(own.routines, {0x10054: 'start', 0x10074: 'pointed'})
+                run, steps = given.run_in(own, counted=counted)
+                self.assertTrue(run.total == steps or run.unsure)
+                self.assertEqual(CallCosts(own, run).calls_of(0x10074), 1)
+                self.assertEqual(own.name_of(own.routine_of(0x10078)), 'pointed')
+
     def test_are_not_needed_where_a_run_lands_on_a_save(self):
         self.words[9] = form3(2, 14, SAVE, 14, ('i', -96))
         self.words[10:] = [RET, ALONE]

@@ -128,8 +128,9 @@ class CallCosts:
             elif not is_return(word):
                 jumps[self.shown.routine_of(jump)][jump] += count
         for target, count in self.run.landings():
-            if target in self.shown.routines:
-                landed[target] += count
+            routine = self.shown.entered_at(target)
+            if routine is not None:
+                landed[routine] += count
             elif not self.shown.is_behind_call(target):
                 labels[self.shown.routine_of(target)] += count
         for routine, own in jumps.items():

@@ -99,7 +99,7 @@ def stray_jump(shown: Shown, run: Run) -> int | None:
     for target, count in run.landings():
         call = shown.call_before(target)
         if call is None:
-            arrived['at a routine' if target in shown.routines else 'at a label'] += count
+            arrived['at a label' if shown.entered_at(target) is None else 'at a routine'] += count
         else:
             arrived['returns'] -= count
             calls[call] -= count

@@ -172,12 +172,13 @@ class Executions(Run):
 
     def lands_within(self, block: Block) -> bool:
         """Whether control may have come to a block by a jump behind its first word: by a switch of which a case is there;
-        or more often than it came back there from a call, or to what is neither that nor a routine's begin."""
+        or more often than it came back there from a call, or to what is neither that nor a routine's first instruction."""
         if any(edge.kind == 'case' and self.edge(edge) for edge in block.into) \
                 and not self.shown.cases().isdisjoint(block.addresses()[1:]):
             return True
         landed = sum(self.edge(edge) for edge in block.into if edge.kind == 'land')
-        if not landed or block.words == 1 or block.first in self.shown.routines:
+        is_entered = block.first in self.shown.routines and block.first == self.shown.first_instruction(block)
+        if not landed or block.words == 1 or is_entered:
             return False
         calls = self.shown.block_of(self.shown.call_before(block.first) or -1)
         return calls is None or landed > sum(self.edge(edge) for edge in calls.out)

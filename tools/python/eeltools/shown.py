@@ -245,12 +245,19 @@ class Shown:
         """The address of a block's first word but for nops, which stand between functions."""
         return next((address for address in block.addresses() if self.word(address) != NOP), block.first)
 
+    def entered_at(self, address: int) -> int | None:
+        """The routine that is entered by a jump to a word: which begins there, or in its block with nops before it; or None."""
+        if address in self.routines:
+            return address
+        block = self.block_of(address)
+        return block.first if block and block.first in self.routines and address == self.first_instruction(block) else None
+
     def split(self, run: Run) -> None:
         """Begins a routine at each SAVE at which the run landed: programs without symbols have routines where a CALL
         leads, and are called through registers elsewhere. What may still be several routines in one is merged."""
         odd, jumping = set(), set()
         for target, _ in run.landings():
-            if target not in self.routines:
+            if self.entered_at(target) is None:
                 first = self.first_instruction(self.blocks[target]) if target in self.blocks else target
                 if is_save(self.word(first)):
                     self.add_routine(target, f'at {first:08x}')
