@@ -37,7 +37,7 @@ PAGES = sorted(glob.glob(os.path.join(TOP, 'tools', 'pages', '*.1')))
 # What finds faults in texts, with the version that finds none here: another one may ask for more.
 LINTERS = {'shellcheck': '0.9.0', 'pyflakes3': '2.5.0', 'groff': '1.22.4'}
 PYTHON = sys.executable or shutil.which('python3')
-LONG = 'kits', 'wrong calls', 'models', 'traps'  # are begun first
+LONG = 'each script, with lines', 'wrong calls', 'models', 'traps', 'kits'  # are begun first, in this order
 CROSS = ['sparc64-linux-gnu-gcc', 'clang', 'gcc', 'gcov', 'valgrind']
 FOREIGN = re.compile('GIT_(?!CONFIG_)[A-Z_]*|GIT_CONFIG_PARAMETERS|PYTHON.*|LC_.*|LANG.*|EEL_EXPLAIN|DESTDIR|CDPATH|ENV|BASH_ENV|'
                      'COLUMNS|(FORCE|NO)_COLOR|POSIXLY_CORRECT|TAR_OPTIONS|GZIP')
@@ -174,6 +174,11 @@ def outcome(step, has_program, room):
     return 'failed' if status else 'ok', time.monotonic() - started, told
 
 
+def place_of(step):
+    """Where a step comes in the order in which they are begun."""
+    return LONG.index(step[0]) if step[0] in LONG else len(LONG)
+
+
 def places():
     """How many steps are done at once."""
     number = os.environ.get('RT_JOBS', '')
@@ -211,7 +216,7 @@ def main():
         parser.error(f'there is no step {sorted(unknown)[0]}')
     open_streams()
     started, has_program = time.monotonic(), is_built()
-    steps = sorted((step for step in STEPS if not wanted or step[0] in wanted), key=lambda step: step[0] not in LONG)
+    steps = sorted((step for step in STEPS if not wanted or step[0] in wanted), key=place_of)
     with tempfile.TemporaryDirectory(prefix='eel-quick-', ignore_cleanup_errors=True) as room:
         heed_signals(lambda number, _: end_by(number, room))
         ends = outcomes(steps, places(), has_program, room)
