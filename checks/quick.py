@@ -1,5 +1,5 @@
 #!/usr/bin/env python3
-"""Checks in three minutes what no proof covers: the launcher, build.py, the scripts, the documents and the models.
+"""Checks in four minutes what no proof covers: the launcher, build.py, the scripts, the documents and the models.
 
 Each step is another program, or another script of checks/; one that this machine lacks is left out, which is said. The
 steps that call `eel` take the program that stands in crates/eel_main/out, as `./eel`, build.py or .ci/run left it. All is
